@@ -1,0 +1,14 @@
+pub mod Packing
+pub mod Holding
+pub mod Ordering
+pub mod Matching
+pub mod Reading
+pub mod Heads
+pub mod Fronts
+pub mod Sizes
+pub mod Ends
+pub mod Dividing
+pub mod Storing
+pub mod Exact
+pub mod Answering
+pub mod Filling

@@ -1,0 +1,4 @@
+pub mod Forms
+pub mod Encoding
+pub mod Deciding
+pub mod Filling

@@ -1,0 +1,4 @@
+pub mod Forms
+pub mod Reading
+pub mod Writing
+pub mod Theorems
