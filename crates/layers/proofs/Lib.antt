@@ -1,0 +1,4 @@
+pub mod Limiting
+pub mod Chunking
+pub mod Recalling
+pub mod Memoizing
