@@ -29,13 +29,7 @@ impl Fault {
     pub fn bare(refusal: Refusal) -> Fault
         ensures value { λ r. ⌜ r ≡ bare refusal ⌝ }
     {
-        Fault {
-            refusal,
-            layer: UNKNOWN,
-            source: UNKNOWN,
-            literal: UNKNOWN,
-            detail: UNKNOWN_DETAIL,
-        }
+        Fault::layered(refusal, UNKNOWN)
     }
 
     // A refusal at a byte place of a text or a file; a place past the largest detail is not told.
@@ -48,11 +42,8 @@ impl Fault {
             UNKNOWN_DETAIL
         };
         Fault {
-            refusal,
-            layer: UNKNOWN,
-            source: UNKNOWN,
-            literal: UNKNOWN,
             detail,
+            ..Fault::bare(refusal)
         }
     }
 
@@ -74,26 +65,14 @@ impl Fault {
         ensures value { λ r. ⌜ r ≡ raised self ⌝ }
     {
         let layer = self.layer.saturating_add(1).min(LAYER_MAX);
-        Fault {
-            refusal: self.refusal,
-            layer,
-            source: self.source,
-            literal: self.literal,
-            detail: self.detail,
-        }
+        Fault { layer, ..self }
     }
 
     // The fault as one of the first source of a rack.
     pub fn of_first_source(self) -> Fault
         ensures value { λ r. ⌜ r ≡ first-source self ⌝ }
     {
-        Fault {
-            refusal: self.refusal,
-            layer: self.layer,
-            source: 0,
-            literal: self.literal,
-            detail: self.detail,
-        }
+        Fault { source: 0, ..self }
     }
 
     // The fault of a rack as one of a rack that has a source more in front of it.
@@ -101,12 +80,6 @@ impl Fault {
         ensures value { λ r. ⌜ r ≡ next-source self ⌝ }
     {
         let source = self.source.saturating_add(1);
-        Fault {
-            refusal: self.refusal,
-            layer: self.layer,
-            source,
-            literal: self.literal,
-            detail: self.detail,
-        }
+        Fault { source, ..self }
     }
 }
