@@ -18,6 +18,7 @@ use Rattle.source.specs.declared.mark.Mark.{Mark}
 use Rattle.source.specs.Rows.{same, isIn, flat}
 use Rattle.source.specs.Marks.{picked, same-marks}
 use Rattle.source.specs.Meaning.{Bar, clear, Meaning, raised-bar}
+use Rattle.source.specs.Calls.{PassedOn}
 use Rattle.layers.specs.declared.entry.Entry.{Entry}
 use Rattle.layers.specs.declared.table.Table.{Table}
 use Rattle.layers.specs.Chunks.{rows-in}
@@ -98,3 +99,8 @@ Learns before after marks inputs memory′ (Ok count) =
     (Remembers before after (record { marks = marks; inputs = inputs; rows = rows-in (length marks) count memory′ }))
     (λ rows. after ≡ before)
 Learns before after marks inputs memory′ (Err fault) = after ≡ before
+
+-- remembered inputs leave the source below as it was; others are passed on to it
+abbrev pub Asks : List Remembered → Meaning → Meaning → List ℕ → List ℕ → List ℕ → Result ℕ Fault → Type 0
+Asks es m m′ inputs memory memory′ r =
+    Cases (recalled es (m .marks) inputs) (PassedOn m m′ inputs memory memory′ r) (λ rows. m′ ≡ m)

@@ -4,7 +4,7 @@ ghost use Prim.Native.Nat.{ℕ};
 ghost use Rattle.std.specs.Of.Vec.{vec-len};
 ghost use Rattle.std.specs.Vec.{made, refused};
 ghost use Rattle.source.specs.Calls.{Called};
-ghost use Rattle.layers.specs.Memory.{kept-all, memoized, Learns};
+ghost use Rattle.layers.specs.Memory.{kept-all, memoized, Asks, Learns};
 use crate::table::Table;
 use faults::Fault;
 use source::Mark;
@@ -43,6 +43,7 @@ pub impl<S: Source> Source for Memo<S> as MemoSource {
 
     fn call(&mut self, inputs: &[u32], memory: &mut [u32]) -> Result<usize, Fault>
         ensures called { λ r. ⌜ Called (memoized (kept-all (now (self .entry) .table)) (S·Source .meaning (now (self .entry) .below))) (memoized (kept-all (now (self .exit) .table)) (S·Source .meaning (now (self .exit) .below))) (now (inputs .entry)) (now (memory .entry)) (now (memory .exit)) r ⌝ }
+        ensures below { λ r. ⌜ Asks (kept-all (now (self .entry) .table)) (S·Source .meaning (now (self .entry) .below)) (S·Source .meaning (now (self .exit) .below)) (now (inputs .entry)) (now (memory .entry)) (now (memory .exit)) r ⌝ }
         ensures learns { λ r. ⌜ Learns (now (self .entry) .table) (now (self .exit) .table) (S·Source .meaning (now (self .entry) .below) .marks) (now (inputs .entry)) (now (memory .exit)) r ⌝ }
     {
         admit(self.below.marks(), inputs, memory.len())?;

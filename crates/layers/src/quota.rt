@@ -2,7 +2,7 @@ ghost use mathlib.Core.Path.{_≡_};
 ghost use mathlib.Core.Bool.{cond};
 ghost use Prim.Native.Nat.{_+_, _-_, _≤_, min};
 ghost use Rattle.std.specs.Results.{isOk};
-ghost use Rattle.source.specs.Calls.{Called};
+ghost use Rattle.source.specs.Calls.{Called, PassedOn};
 ghost use Rattle.layers.specs.Limits.{limited};
 use faults::Fault;
 use faults::Refusal;
@@ -52,6 +52,7 @@ pub impl<S: Source> Source for Quota<S> as QuotaSource {
 
     fn call(&mut self, inputs: &[u32], memory: &mut [u32]) -> Result<usize, Fault>
         ensures called { λ r. ⌜ Called (limited (now (self .entry) .units) (S·Source .meaning (now (self .entry) .below))) (limited (now (self .exit) .units) (S·Source .meaning (now (self .exit) .below))) (now (inputs .entry)) (now (memory .entry)) (now (memory .exit)) r ⌝ }
+        ensures below { λ r. ⌜ PassedOn (S·Source .meaning (now (self .entry) .below)) (S·Source .meaning (now (self .exit) .below)) (now (inputs .entry)) (now (memory .entry)) (now (memory .exit)) r ⌝ }
         ensures units { λ r. ⌜ now (self .exit) .units ≡ cond (isOk r) (now (self .entry) .units - 1) (now (self .entry) .units) ⌝ }
     {
         admit(self.below.marks(), inputs, memory.len())?;

@@ -83,3 +83,9 @@ Called m m′ inputs memory memory′ (Err fault) = Refused m m′ inputs memory
 abbrev pub Admitted : List Mark → List ℕ → ℕ → Result (Unit {0}) Fault → Type 0
 Admitted marks inputs room (Ok _) = (misuse marks inputs room ≡ None) × (256 ≤ room) × (length inputs ≡ inputs-of marks)
 Admitted marks inputs room (Err fault) = misuse marks inputs room ≡ Some fault
+
+-- what a layer does to the source below it: an answered call is answered there, to the same inputs and
+-- into the same memory; a refused one leaves that source's meaning as it was
+abbrev pub PassedOn : Meaning → Meaning → List ℕ → List ℕ → List ℕ → Result ℕ Fault → Type 0
+PassedOn m m′ inputs memory memory′ (Ok count) = Answered m m′ inputs memory memory′ count
+PassedOn m m′ inputs memory memory′ (Err fault) = m′ ≡ m

@@ -21,6 +21,7 @@ returns-in-Some g c =
     let recalled-rows : recalled (kept-all table) (m .marks) inputs ≡ Some (found .0) = subst (λ z. recalled (kept-all table) z inputs ≡ Some (found .0)) (c .marks-2 .ensures .value) (found .1) in
     record {
       called = answered-from-entry (kept-all table) m inputs (c .args .memory .now) (c .recall .last .memory) (c .in-Some .count) (found .0) (table-sound table) admitted recalled-rows (found .2) (found .3);
+      below = rw recalled-rows refl;
       learns = rw recalled-rows refl;
     }
 
@@ -56,5 +57,6 @@ returns-in-Ok g c =
     let remembers = subst (λ z. Remembers table (c .remember .last .self) (record { marks = z; inputs = inputs; rows = rows-in (length z) (c .in-Ok .count) (c .call .last .memory) })) marks (c .remember .ensures) in
     record {
       called = answered-below m m′ inputs memory (c .call .last .memory) (c .in-Ok .count) w b (kept-all table) (kept-all (c .remember .last .self)) new (learned m m′ inputs memory (c .call .last .memory) (c .in-Ok .count) w b table (c .remember .last .self) new remembers);
+      below = rw new b;
       learns = rw new remembers;
     }
