@@ -1,5 +1,7 @@
 // Follows one question over a cabinet's sources to its end, and prints a record of it: which notices
 // apply to pack 1007?
+mod texts;
+
 use ends::Divider;
 use ends::Register;
 use ends::divider::DividerSource;
@@ -16,6 +18,7 @@ use std::alloc::Global;
 use std::error::AnyError;
 use std::fs;
 use std::rt::Files;
+use texts::show_order;
 
 // The pack whose notices are asked for.
 const PACK: u32 = 1007;
@@ -137,7 +140,8 @@ fn show_piles(rt: &LibcRuntime) -> Result<(), AnyError> {
     ask(rt, "quota 1 over memo", &mut spent, 2001)
 }
 
-fn run(rt: &LibcRuntime) -> Result<(), AnyError> {
+// Follows the pack to its modules, their batches and the notices of these, and prints the notices.
+fn follow_pack(rt: &LibcRuntime) -> Result<(), AnyError> {
     let mut packs = open(rt, "pack.reg")?;
     let mut recalls = open(rt, "recall.reg")?;
     let mut batches = match Divider::new(MODULES_IN_BATCH) {
@@ -160,6 +164,14 @@ fn run(rt: &LibcRuntime) -> Result<(), AnyError> {
         print!(rt, " {notice}")?;
     }
     println!(rt, "")?;
+    Ok(())
+}
+
+fn run(rt: &LibcRuntime) -> Result<(), AnyError> {
+    show_order(rt, "catalogue.txt", "query.txt")?;
+    show_order(rt, "catalogue.txt", "unbound.txt")?;
+    show_order(rt, "catalogue.txt", "misspelt.txt")?;
+    follow_pack(rt)?;
     show_piles(rt)?;
     show_damaged(rt, "damaged.reg")
 }

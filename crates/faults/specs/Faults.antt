@@ -22,6 +22,10 @@ placed r place = record { refusal = r; layer = unknown; source = unknown; litera
 abbrev pub layered : Refusal → ℕ → Fault
 layered r layer = record { refusal = r; layer = layer; source = unknown; literal = unknown; detail = unknown-detail }
 
+-- the place of the literal in its query is known
+abbrev pub at-literal : Refusal → ℕ → Fault
+at-literal r place = record { refusal = r; layer = unknown; source = unknown; literal = place; detail = unknown-detail }
+
 -- a fault seen from one layer further out; the number of the layer stops at 254
 abbrev pub raised : Fault → Fault
 raised f = record { refusal = f .refusal; layer = min (f .layer + 1) 254; source = f .source; literal = f .literal; detail = f .detail }

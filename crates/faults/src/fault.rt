@@ -1,5 +1,5 @@
 ghost use mathlib.Core.Path.{_≡_};
-ghost use Rattle.faults.specs.Faults.{bare, placed, layered, raised, first-source, next-source};
+ghost use Rattle.faults.specs.Faults.{bare, placed, layered, at-literal, raised, first-source, next-source};
 use crate::refusal::Refusal;
 use crate::refusal::RefusalDebug;
 use crate::refusal::RefusalPartialEq;
@@ -57,6 +57,16 @@ impl Fault {
             source: UNKNOWN,
             literal: UNKNOWN,
             detail: UNKNOWN_DETAIL,
+        }
+    }
+
+    // A refusal of which the place of a query's literal is known.
+    pub fn at_literal(refusal: Refusal, literal: u8) -> Fault
+        ensures value { λ r. ⌜ r ≡ at-literal refusal literal ⌝ }
+    {
+        Fault {
+            literal,
+            ..Fault::bare(refusal)
         }
     }
 

@@ -4,6 +4,26 @@ ghost use Rattle.faults.specs.Refusals.{number};
 // Why a call, a file or a text is refused.
 #[derive(Clone, Copy, PartialEq, Eq, Debug)]
 pub enum Refusal {
+    // A catalogue text has the wrong form.
+    CatalogueForm,
+    // A catalogue text passes a limit.
+    CatalogueLimit,
+    // A catalogue text names a source twice.
+    SourceNamedTwice,
+    // A query text has the wrong form.
+    QueryForm,
+    // A literal of a query names no source, or has more or fewer terms than its source has columns.
+    UnfitLiteral,
+    // A query text passes a limit.
+    QueryLimit,
+    // A variable of a query stands in columns of two kinds.
+    VariableInTwoKinds,
+    // A variable of a query's head stands in none of its literals.
+    HeadVariableMissing,
+    // A constant of a query is above the largest value.
+    ConstantTooLarge,
+    // No order of a query's literals can be executed.
+    NoExecutableOrder,
     // A lent memory has too few numbers.
     MemoryTooShort,
     // No such source, or another number of inputs than the source takes.
@@ -34,6 +54,16 @@ impl Refusal {
         ensures value { λ r. ⌜ r ≡ number self ⌝ }
     {
         match self {
+            Refusal::CatalogueForm => 1,
+            Refusal::CatalogueLimit => 2,
+            Refusal::SourceNamedTwice => 3,
+            Refusal::QueryForm => 11,
+            Refusal::UnfitLiteral => 12,
+            Refusal::QueryLimit => 13,
+            Refusal::VariableInTwoKinds => 14,
+            Refusal::HeadVariableMissing => 15,
+            Refusal::ConstantTooLarge => 16,
+            Refusal::NoExecutableOrder => 17,
             Refusal::MemoryTooShort => 21,
             Refusal::NotInCatalogue => 23,
             Refusal::Spent => 31,

@@ -1,0 +1,5 @@
+pub mod Shaping
+pub mod Laws
+pub mod Taking
+pub mod Answering
+pub mod Holdings

@@ -1,0 +1,5 @@
+pub mod Plain
+pub mod Sheets
+pub mod Records
+pub mod Reading
+pub mod Texts
