@@ -79,7 +79,7 @@ fn scan_start(marks: &[Mark], rows: &[[u32; 4]], inputs: &[u32], leading: bool) 
 // Writes the rows that hold the inputs from the start of the memory, and returns how many they are.
 // Where the given columns stand first, the rows that hold the inputs stand together: their first is
 // found by halving, and the scan ends behind their last.
-pub fn write_matching(
+pub(crate) fn write_matching(
     marks: &[Mark],
     rows: &[[u32; 4]],
     inputs: &[u32],

@@ -20,7 +20,7 @@ pub struct Columns {
 }
 
 // A mark as a bit.
-pub fn bit_of(mark: Mark) -> u32
+pub(crate) fn bit_of(mark: Mark) -> u32
     ensures { λ r. ⌜ r ≡ bit mark ⌝ }
 {
     match mark {
@@ -38,7 +38,7 @@ fn mark_of(packed: u32) -> Mark
 }
 
 // The columns of a number of marks: refused if it has another bit, or more than three.
-pub fn unpack(width: usize, packed: u32) -> Option<Columns>
+pub(crate) fn unpack(width: usize, packed: u32) -> Option<Columns>
     requires some { ⌜ 1 ≤ width ⌝ }
     requires four { ⌜ width ≤ 4 ⌝ }
     ensures { λ r. ⌜ Unpacked width packed r ⌝ }
@@ -59,7 +59,7 @@ pub fn unpack(width: usize, packed: u32) -> Option<Columns>
 }
 
 // The columns of these marks: refused if they are none or more than four, or more than three are given.
-pub fn columns_of(marks: &[Mark]) -> Option<Columns>
+pub(crate) fn columns_of(marks: &[Mark]) -> Option<Columns>
     ensures { λ r. ⌜ Copied (now (marks .entry)) r ⌝ }
 {
     let width = marks.len();
@@ -80,7 +80,7 @@ pub fn columns_of(marks: &[Mark]) -> Option<Columns>
 }
 
 // The marks as a number.
-pub fn pack(marks: &[Mark]) -> u32
+pub(crate) fn pack(marks: &[Mark]) -> u32
     requires { ⌜ length (now marks) ≤ 4 ⌝ }
     ensures { λ r. ⌜ r ≡ bits (now (marks .entry)) ⌝ }
 {

@@ -69,7 +69,7 @@ fn part(columns: Columns, values: &[u32]) -> Result<Rows, Fault>
 }
 
 // The columns and rows of a table of marks and values.
-pub fn gather(marks: &[Mark], values: &[u32]) -> Result<(Columns, Rows), Fault>
+pub(crate) fn gather(marks: &[Mark], values: &[u32]) -> Result<(Columns, Rows), Fault>
     ensures { λ r. ⌜ Gathering (now (marks .entry)) (now (values .entry)) r ⌝ }
 {
     let Some(columns) = columns_of(marks) else {

@@ -96,7 +96,7 @@ fn read_rows(bytes: &[u8], head: Head) -> Result<([[u32; 4]; 1024], usize), Faul
 }
 
 // Reads a whole file: the header, the rows, that nothing is left over and no row has too many with its inputs.
-pub fn load(bytes: &[u8]) -> Result<(Head, [[u32; 4]; 1024]), Fault>
+pub(crate) fn load(bytes: &[u8]) -> Result<(Head, [[u32; 4]; 1024]), Fault>
     ensures { λ r. ⌜ Loaded (now (bytes .entry)) r ⌝ }
 {
     match read_head(bytes) {

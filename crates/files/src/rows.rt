@@ -26,7 +26,7 @@ fn row_before(a: [u32; 4], b: [u32; 4], columns: usize) -> bool
 }
 
 // Whether the rows still ascend with this one behind the first `count`.
-pub fn follows(rows: &[[u32; 4]], count: usize, row: [u32; 4], columns: usize) -> bool
+pub(crate) fn follows(rows: &[[u32; 4]], count: usize, row: [u32; 4], columns: usize) -> bool
     requires columns { ⌜ columns ≤ 4 ⌝ }
     requires count { ⌜ count ≤ length (now rows) ⌝ }
     requires ascends { ⌜ ascending (held-rows columns count (now rows)) ≡ true ⌝ }
@@ -67,7 +67,7 @@ fn crowd(marks: &[Mark], rows: &[[u32; 4]], upto: usize, row: [u32; 4]) -> usize
 }
 
 // The first of the rows that has 64 earlier ones with its inputs.
-pub fn first_crowded(marks: &[Mark], rows: &[[u32; 4]], count: usize) -> Option<usize>
+pub(crate) fn first_crowded(marks: &[Mark], rows: &[[u32; 4]], count: usize) -> Option<usize>
     requires columns { ⌜ length (now marks) ≤ 4 ⌝ }
     requires count { ⌜ count ≤ length (now rows) ⌝ }
     ensures { λ r. ⌜ CrowdFound (now (marks .entry)) (held-rows (length (now (marks .entry))) count (now (rows .entry))) r ⌝ }

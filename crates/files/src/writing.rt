@@ -22,7 +22,7 @@ fn row_size(row: [u32; 4], columns: usize) -> usize
 }
 
 // How many bytes the first rows take.
-pub fn rows_size(rows: &[[u32; 4]], upto: usize, columns: usize) -> usize
+pub(crate) fn rows_size(rows: &[[u32; 4]], upto: usize, columns: usize) -> usize
     requires columns { ⌜ columns ≤ 4 ⌝ }
     requires upto { ⌜ upto ≤ length (now rows) ⌝ }
     ensures long { λ r. ⌜ r ≡ length (encodes (flat (held-rows columns upto (now (rows .entry))))) ⌝ }
@@ -36,7 +36,7 @@ pub fn rows_size(rows: &[[u32; 4]], upto: usize, columns: usize) -> usize
 }
 
 // How many bytes a file takes.
-pub fn file_size(marks: &[Mark], rows: &[[u32; 4]]) -> usize
+pub(crate) fn file_size(marks: &[Mark], rows: &[[u32; 4]]) -> usize
     requires columns { ⌜ length (now marks) ≤ 4 ⌝ }
     requires count { ⌜ length (now rows) ≤ 1024 ⌝ }
     ensures { λ r. ⌜ r ≡ length (file-of (now (marks .entry)) (now (rows .entry))) ⌝ }
@@ -89,7 +89,7 @@ fn put_rows(memory: &mut [u8], at: usize, rows: &[[u32; 4]], columns: usize) -> 
 }
 
 // Writes a file from the start of the memory, which has room for it, and answers its length.
-pub fn fill(memory: &mut [u8], marks: &[Mark], rows: &[[u32; 4]]) -> usize
+pub(crate) fn fill(memory: &mut [u8], marks: &[Mark], rows: &[[u32; 4]]) -> usize
     requires columns { ⌜ length (now marks) ≤ 4 ⌝ }
     requires count { ⌜ length (now rows) ≤ 1024 ⌝ }
     requires room { ⌜ length (file-of (now marks) (now rows)) ≤ length (now memory) ⌝ }

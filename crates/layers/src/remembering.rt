@@ -127,7 +127,7 @@ impl Entry {
 
 impl Table {
     // Sixteen empty entries.
-    pub fn new(heap: Global) -> Result<Table, AllocError>
+    pub(crate) fn new(heap: Global) -> Result<Table, AllocError>
         ensures made { λ r. ⌜ made r (λ t. (kept-all t ≡ []) × (vec-len (t .entries) ≡ 16)) ⌝ }
     {
         let mut entries = Vec::new(heap);
@@ -147,7 +147,7 @@ impl Table {
     }
 
     // Answers from the entry of these inputs, if there is one.
-    pub fn recall(&self, marks: &[Mark], inputs: &[u32], memory: &mut [u32]) -> Option<usize>
+    pub(crate) fn recall(&self, marks: &[Mark], inputs: &[u32], memory: &mut [u32]) -> Option<usize>
         requires { ⌜ 32 ≤ length (now memory) ⌝ }
         ensures { λ r. ⌜ Recalls (kept-all (now (self .entry))) (now (marks .entry)) (now (inputs .entry)) (now (memory .entry)) (now (memory .exit)) r ⌝ }
     {
@@ -162,7 +162,7 @@ impl Table {
 
     // Fills the next empty entry with the rows that stand from the start of the memory, if they are
     // few enough and an entry is empty.
-    pub fn remember(&mut self, marks: &[Mark], inputs: &[u32], count: usize, memory: &[u32])
+    pub(crate) fn remember(&mut self, marks: &[Mark], inputs: &[u32], count: usize, memory: &[u32])
         requires columns { ⌜ length (now marks) ≤ 4 ⌝ }
         requires given { ⌜ length (now inputs) ≤ 3 ⌝ }
         requires room { ⌜ 32 ≤ length (now memory) ⌝ }

@@ -11,7 +11,7 @@ use std::alloc::Global;
 use std::test::*;
 
 // The number and the layer of a refusal, or 0 and how many rows were answered.
-pub fn ending(result: Result<usize, Fault>) -> (u8, usize) {
+pub(crate) fn ending(result: Result<usize, Fault>) -> (u8, usize) {
     match result {
         Ok(count) => (0, count),
         Err(fault) => (fault.refusal.number(), fault.layer as usize),
@@ -19,13 +19,13 @@ pub fn ending(result: Result<usize, Fault>) -> (u8, usize) {
 }
 
 // How a call with one input ends.
-pub fn called<S: Source>(source: &mut S, input: u32) -> (u8, usize) {
+pub(crate) fn called<S: Source>(source: &mut S, input: u32) -> (u8, usize) {
     let mut memory = [0; ANSWER_ROOM];
     ending(source.call(&[input], &mut memory))
 }
 
 // A divider of 1,000.
-pub fn divider() -> Result<Divider, Fail> {
+pub(crate) fn divider() -> Result<Divider, Fail> {
     match Divider::new(1000) {
         Ok(divider) => Ok(divider),
         Err(_) => Err(Fail::new("no divider")),
@@ -44,7 +44,7 @@ fn crowd(heap: Global, rows: u8) -> Result<Vec<u8>, AllocError> {
 }
 
 // A register that has so many rows for the input 1.
-pub fn register(heap: Global, rows: u8) -> Result<Register, Fail> {
+pub(crate) fn register(heap: Global, rows: u8) -> Result<Register, Fail> {
     let bytes = crowd(heap, rows)?;
     let mut register = Register::new();
     match register.open(&bytes) {
