@@ -1,4 +1,6 @@
 // What a refusal says: its cause, and where it arose.
+#![tactic(auto)]
+
 pub mod fault;
 pub mod refusal;
 

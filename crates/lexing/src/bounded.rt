@@ -1,12 +1,24 @@
 // Up to N items, inside the value.
-ghost use Rattle.std.specs.Prelude.{◌≡◌, ◌+◌, ◌<◌, ◌≤◌, [], ◌∷◌, ◌++◌, length, take, if◌then◌else◌, nat_lt};
+ghost use Rattle.std.specs.Prelude.{◌≡◌, ◌+◌, ◌<◌, ◌≤◌, [], ◌∷◌, ◌++◌, length, take, if◌then◌else◌, nat_lt, ⊤};
 
-#[derive(Clone, Copy)]
+use std::alloc::AllocError;
+
+#[derive(Copy)]
 pub struct Bounded<T, const N: usize> {
     items: [T; N],
     used: usize,
     ghost room: { length items ≡ N },
     ghost within: { used ≤ N },
+}
+
+impl<T: Copy, const N: usize> Clone for Bounded<T, N> {
+    ghost is_clone = { λ list copied. copied ≡ list };
+
+    ghost is_infallible = { λ _. ⊤ };
+
+    fn clone(&self) -> Result<Bounded<T, N>, AllocError> {
+        Ok(*self)
+    }
 }
 
 impl<T: Copy, const N: usize> Bounded<T, N> {

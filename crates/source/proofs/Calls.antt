@@ -1,7 +1,7 @@
 -- What the proof of every source uses of a call.
 use Rattle.std.proofs.Common.{◌≡◌, ℕ, Bool, List, None, sym, refl, ap, ◌∙◌, arith}
-use Rattle.source.specs.Meaning.{Meaning, Bar, clear, barred, Proper, Lawful, raised_bar}
-use Rattle.source.specs.Calls.{misuse, refusal, bar_fault, earlier, MayBecome, Later, Answer}
+use Rattle.source.specs.Meaning.{Meaning, Bar, clear, barred, Proper, raised_bar}
+use Rattle.source.specs.Calls.{misuse, refusal, bar_fault, earlier, MayBecome, Later}
 use Rattle.source.specs.Laws.{AtMost64Rows}
 
 pub refused_by_bar : (m : Meaning) (inputs : List ℕ) (room : ℕ) → misuse m.marks inputs room ≡ None → refusal m inputs room ≡ bar_fault (m.bars inputs)

@@ -1,16 +1,14 @@
 -- What calls do to a rack.
-use Rattle.std.proofs.Common.{◌≡◌, ℕ, zero, suc, ◌<◌, ◌≤◌, Bool, true, false, cond, eqb, ltb, List, [], ◌∷◌, length, set, Some, None, Option, sym, refl, ap, ◌∙◌, subst, arith, le-ltb, eq-eqb}
+use Rattle.std.proofs.Common.{◌≡◌, ℕ, zero, suc, ◌≤◌, Bool, List, [], ◌∷◌, length, set, Some, None, Option, sym, refl, ap, ◌∙◌, subst, arith, le-ltb, eq-eqb}
 use Rattle.std.specs.Option.{option_map}
 use Rattle.faults.specs.declared.fault.Fault.{Fault}
 use Rattle.faults.specs.declared.refusal.Refusal.{Refusal}
-use Rattle.faults.specs.declared.refusal.Refusal.TheVariants.{MemoryTooShort, NotInCatalogue}
 use Rattle.faults.specs.Faults.{layered, from_source}
 use Rattle.source.specs.declared.mark.Mark.{Mark}
-use Rattle.source.specs.Rows.{Written}
 use Rattle.source.specs.Marks.{inputs_of}
 use Rattle.source.specs.Meaning.{Meaning, Bar, clear, barred}
-use Rattle.source.specs.Calls.{misuse, bar_fault, earlier, refusal, Later, Answer, Answered}
-use Rattle.source.specs.Racks.{meaning_at, refusal_by, refusal_at, AnsweredAt, RefusedAt, InRelation, Replied, Barred, Rebarred, no_source, one_more}
+use Rattle.source.specs.Calls.{misuse, bar_fault, earlier, refusal}
+use Rattle.source.specs.Racks.{meaning_at, refusal_by, AnsweredAt, RefusedAt, InRelation, Replied, Barred, Rebarred, no_source, one_more}
 
 pub same_meaning : (m n : Meaning) → ◌≡◌ {A = Option Meaning} (Some m) (Some n) → m ≡ n
 same_meaning m n e = cc

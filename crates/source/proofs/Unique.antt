@@ -2,8 +2,6 @@
 use Rattle.std.proofs.Common.{◌≡◌, ℕ, ◌≤◌, Bool, true, false, ◌||◌, ◌⊎◌, List, [], ◌∷◌, length, sym, refl, ap, ◌∙◌, subst, ap₂, inl, inr, arith}
 use Rattle.std.proofs.lemmas.Bool.{or_cases, true≢false, false≢true}
 use Rattle.source.specs.Rows.{same, before, is_in, ascending}
-use Rattle.source.specs.Meaning.{Meaning}
-use Rattle.source.specs.Calls.{Answer}
 use Rattle.source.specs.Laws.{OneAnswer}
 use Rattle.source.proofs.Rows.{same_eq, before_irrefl, before_trans, in_head, in_tail, ascending_tail, head_before_all}
 

@@ -1,4 +1,6 @@
 // What a source is: its marks, its meaning and its calls.
+#![tactic(auto)]
+
 pub mod admission;
 pub mod laws;
 pub mod mark;

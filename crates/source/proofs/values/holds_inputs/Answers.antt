@@ -1,4 +1,4 @@
-use Rattle.std.proofs.Common.{◌≡◌, sym, ap, ◌∙◌, inl, inr, arith}
+use Rattle.std.proofs.Common.{sym, ap, ◌∙◌, inl, inr, arith}
 use Rattle.source.proofs.Columns.{rest_holds, holds_more, holds_not, holds_too_few, holds_free, holds_end}
 use Rattle.source.proofs.values.holds_inputs.Goals.{then-used-inputs-via-then-used-inputs, then-used-inputs-via-else-used-inputs+then-inputs-used, else-loop-i-test, then-loop-i-test+then-i-row}
 use Rattle.source.proofs.values.holds_inputs.Goals as goal
