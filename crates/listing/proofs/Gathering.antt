@@ -1,9 +1,9 @@
 -- Giving answers to a list, one after another.
-use Rattle.std.proofs.Common.{◌≡◌, ℕ, zero, suc, ◌+◌, ◌-◌, ◌*◌, ◌<◌, ◌≤◌, Bool, true, false, ◌||◌, ◌⊎◌, List, [], ◌∷◌, ◌++◌, length, get_or, take, drop, sym, refl, ap, ◌∙◌, subst, inl, inr, arith, length-drop, length-take}
-use Rattle.std.proofs.lemmas.Bool.{or_cases, or_left, or_right, false≢true, true≢false, cases_Bool}
+use Rattle.std.proofs.Common.{◌≡◌, ℕ, zero, suc, ◌+◌, ◌-◌, ◌*◌, ◌<◌, ◌≤◌, Bool, true, false, ◌⊎◌, List, [], ◌∷◌, length, get_or, take, drop, sym, refl, ap, ◌∙◌, subst, inl, inr, arith, length-drop}
+use Rattle.std.proofs.lemmas.Bool.{or_cases, or_left, or_right, true≢false, cases_Bool}
 use Rattle.std.proofs.lemmas.List.{drop-drop, length-take-le}
 use Rattle.std.proofs.lemmas.List.Edits.{length-insert}
-use Rattle.source.specs.Rows.{same, before, is_in, leads, ascending, rows_in}
+use Rattle.source.specs.Rows.{same, before, is_in, leads, ascending}
 use Rattle.source.proofs.Rows.{same_eq, eq_same, ascending_tail}
 use Rattle.listing.specs.Answers.{answers, Added, listed_before, listed_now, no_place}
 use Rattle.listing.specs.Gathering.{Listing, listed, TooMany, Gathered}

@@ -1,5 +1,7 @@
 // The answers of a query, listed in memory that the caller lends: four numbers each, once each,
 // ascending from the start of the memory.
+#![tactic(auto)]
+
 ghost use Rattle.std.specs.Prelude.{◌≡◌, ℕ, ◌+◌, ◌-◌, ◌*◌, ◌<◌, ◌≤◌, true, false, ◌++◌, length, take, drop};
 ghost use Rattle.source.specs.Rows.{ascending};
 ghost use Rattle.listing.specs.Answers.{answers, places_in, cleared, Added, Closed, Spotted};
