@@ -7,7 +7,6 @@ use ends::{Divider, Register};
 use faults::Fault;
 use layers::{Memo, Quota};
 use source::{ANSWER_ROOM, Mark, Source};
-use std::alloc::Global;
 use std::fs;
 use std::rt::Files;
 use texts::show_order;
@@ -27,12 +26,9 @@ fn letter(mark: Mark) -> char {
 }
 
 // The refusal as an error of the program.
-fn refused(heap: Global, what: &str, fault: Fault) -> anyhow::Error {
+fn refused(what: &str, fault: Fault) -> anyhow::Error {
     let number = fault.refusal.number();
-    match format!(in heap; "{what}: refusal {number}") {
-        Ok(text) => text.into(),
-        Err(_) => "refused".into(),
-    }
+    anyhow!("{what}: refusal {number}")
 }
 
 // A register filled from a file, with a line of the record.
@@ -49,7 +45,7 @@ fn open(rt: &(impl Files + Print + AllocGlobal), path: &str) -> anyhow::Result<R
             println!(rt; "")?;
             Ok(register)
         }
-        Err(fault) => Err(refused(rt.alloc(), path, fault)),
+        Err(fault) => Err(refused(path, fault)),
     }
 }
 
@@ -83,7 +79,7 @@ fn follow<S: Source>(
             }
             Ok(found)
         }
-        Err(fault) => Err(refused(rt.alloc(), name, fault)),
+        Err(fault) => Err(refused(name, fault)),
     }
 }
 
@@ -135,7 +131,7 @@ fn follow_pack(rt: &HostRuntime) -> anyhow::Result<()> {
     let mut recalls = open(rt, "recall.reg")?;
     let mut batches = match Divider::new(MODULES_IN_BATCH) {
         Ok(divider) => divider,
-        Err(fault) => return Err(refused(rt.alloc(), "divider", fault)),
+        Err(fault) => return Err(refused("divider", fault)),
     };
     println!(rt; "divider {MODULES_IN_BATCH}: b f f")?;
     let mut notices = Vec::new(rt.alloc());
@@ -146,7 +142,7 @@ fn follow_pack(rt: &HostRuntime) -> anyhow::Result<()> {
             }
         }
     }
-    notices.sort();
+    notices.sort()?;
     notices.dedup();
     print!(rt; "notices of pack {PACK}:")?;
     for notice in &notices {
