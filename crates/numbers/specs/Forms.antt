@@ -1,5 +1,5 @@
 -- Numbers in groups of seven bits. A byte holds one group, and 128 more if another group follows.
-use Rattle.std.specs.Prelude.{◌≡◌, ℕ, zero, suc, ◌+◌, ◌/◌, ◌%◌, ◌^◌, ◌<◌, ◌≤◌, cond, List, [], ◌∷◌, ◌++◌, length, take, drop, ◌≢◌, nat_lt}
+use Rattle.std.specs.Prelude.{ℕ, zero, suc, ◌+◌, ◌/◌, ◌%◌, ◌^◌, ◌<◌, ◌≤◌, cond, List, [], ◌∷◌, ◌++◌, length, take, drop, ◌≢◌, nat_lt}
 
 -- the bytes are the form of the number: its groups, the lowest first, with none too many
 pub data Form : ℕ → List ℕ → Type 0 where

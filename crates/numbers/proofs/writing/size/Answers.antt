@@ -2,8 +2,8 @@ use Rattle.std.proofs.Common.{arith}
 use Rattle.numbers.proofs.Encoding.{encode_one, encode_long, encode_few}
 use Rattle.numbers.proofs.writing.size.Goals as goal
 
-pub overflow-add-count : goal.overflow-add-count
-overflow-add-count c = record { fits = omega (arith, c.loop-left.invariant.0, encode_few c.args.value) }
+pub overflow_add-count : goal.overflow_add-count
+overflow_add-count c = record { fits = omega (arith, c.loop-left.invariant.0, encode_few c.args.value) }
 
 pub loop-left-preserved : goal.loop-left-preserved
 loop-left-preserved c =
