@@ -13,7 +13,7 @@ use Rattle.source.specs.Marks.{inputs_of, picked, whole, all_whole}
 use Rattle.numbers.specs.Forms.{encode, encodes}
 use Rattle.numbers.proofs.Encoding.{encode_form, encodes-++, encodes_one, number_bytes}
 use Rattle.numbers.proofs.Deciding.{Bytes, form_bytes, groups, read_back, none_read}
-use Rattle.files.specs.Contents.{Header, bit, bits, header_numbers, numbers, file, FileOf}
+use Rattle.files.specs.Contents.{Header, bit, bits, header_numbers, numbers, FileOf}
 use Rattle.files.specs.Refusing.{Begun, Front, Crowded, Refuses}
 use Rattle.files.specs.Refusing.Refuses.{header_cut, header_range, row_cut, row_order, left_over, crowded}
 use Rattle.files.specs.Theorems.{OneContent, NotBoth, OneFault}

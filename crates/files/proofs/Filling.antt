@@ -1,5 +1,5 @@
 -- Memory that is filled with rows and files.
-use Rattle.std.proofs.Common.{◌≡◌, ℕ, ◌+◌, ◌-◌, ◌<◌, ◌≤◌, List, [], ◌++◌, length, get_or, take, drop, refl, ◌∙◌, zero-add, arith}
+use Rattle.std.proofs.Common.{◌≡◌, ℕ, ◌+◌, ◌<◌, ◌≤◌, List, [], ◌++◌, length, get_or, take, drop, refl, ◌∙◌, zero-add, arith}
 use Rattle.source.specs.declared.mark.Mark.{Mark}
 use Rattle.source.specs.Rows.{flat}
 use Rattle.numbers.specs.Forms.{encode, encodes}

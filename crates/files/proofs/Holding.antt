@@ -1,5 +1,5 @@
 -- The rows in the cells of a table.
-use Rattle.std.proofs.Common.{◌≡◌, ℕ, ◌+◌, ◌-◌, ◌<◌, ◌≤◌, List, [], ◌∷◌, ◌++◌, map, length, get_or, take, set, sym, refl, ap, ◌∙◌, append_assoc, append-nil, get_or-take}
+use Rattle.std.proofs.Common.{◌≡◌, ℕ, ◌+◌, ◌<◌, ◌≤◌, List, [], ◌∷◌, ◌++◌, map, length, get_or, take, set, sym, refl, ap, ◌∙◌, append_assoc, append-nil, get_or-take}
 use lib.ListN.{length-map}
 use Rattle.std.proofs.lemmas.List.{take_more_set, take_more, take-take, map_push, length-take-le, take-map, get_or-map}
 use Rattle.source.specs.Rows.{flat}

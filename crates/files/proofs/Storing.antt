@@ -1,5 +1,5 @@
 -- Tables made from values, and their files.
-use Rattle.std.proofs.Common.{◌≡◌, ℕ, ◌+◌, ◌-◌, ◌*◌, ◌<◌, ◌≤◌, Bool, true, false, List, [], ◌∷◌, ◌++◌, map, length, get_or, take, drop, Ok, Err, Result, sym, refl, ap, ◌∙◌, subst, inr, arith}
+use Rattle.std.proofs.Common.{◌≡◌, ℕ, ◌*◌, ◌<◌, ◌≤◌, Bool, true, false, List, [], ◌∷◌, ◌++◌, map, length, get_or, take, drop, Ok, Err, Result, sym, refl, ap, ◌∙◌, subst, inr, arith}
 use borrow.Author.Tests.{both_ways}
 use Rattle.std.proofs.lemmas.List.{length-take-le, take-take}
 use Rattle.faults.specs.declared.fault.Fault.{Fault}

@@ -1,4 +1,6 @@
 // Register files: the marks of the columns and the rows of a register, as numbers in groups of seven bits.
+#![tactic(auto)]
+
 mod columns;
 mod making;
 mod opening;

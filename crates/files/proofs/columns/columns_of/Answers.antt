@@ -13,4 +13,4 @@ pub returns : goal.returns
 returns c =
     let e : c.loop-i.i ≡ length c.args.marks.now = omega arith in
     let f : take (length c.args.marks.now) c.loop-i.cells ≡ c.args.marks.now = (rw e at c.loop-i.invariant.1) ∙ take_all _ _ (omega arith) in
-    (record { cells = c.loop-i.invariant.0; some_column = c.if-width-lt1.false; four_columns = omega arith; three_given = omega (arith, c.count-inputs.ensures.value, ap inputs_of f) }, f)
+    (record { cells = c.loop-i.invariant.0; some_column = c.if-width-lt1.false; four_columns = omega arith; three_given = omega (arith, c.count_inputs.ensures.value, ap inputs_of f) }, f)

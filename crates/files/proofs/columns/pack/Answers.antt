@@ -6,11 +6,11 @@ use Rattle.files.proofs.columns.pack.Goals as goal
 pub loop-i-init : goal.loop-i-init
 loop-i-init c = (omega arith, omega (arith, bits_end c.args.marks.now (length c.args.marks.now) (omega arith)))
 
-pub overflow-mul-packed : goal.overflow-mul-packed
-overflow-mul-packed c = record { fits = omega (arith, c.loop-i.invariant.1, bits_drop_few c.args.marks.now c.loop-i.i c.requires) }
+pub overflow_mul-packed : goal.overflow_mul-packed
+overflow_mul-packed c = record { fits = omega (arith, c.loop-i.invariant.1, bits_drop_few c.args.marks.now c.loop-i.i c.requires) }
 
-pub overflow-add-packed : goal.overflow-add-packed
-overflow-add-packed c = record { fits = omega (arith, c.loop-i.invariant.1, c.bit-of.ensures, bit_few (get_or c.args.marks.now (c.loop-i.i - 1) Given), bits_drop_few c.args.marks.now c.loop-i.i c.requires) }
+pub overflow_add-packed : goal.overflow_add-packed
+overflow_add-packed c = record { fits = omega (arith, c.loop-i.invariant.1, c.bit_of.ensures, bit_few (get_or c.args.marks.now (c.loop-i.i - 1) Given), bits_drop_few c.args.marks.now c.loop-i.i c.requires) }
 
 pub loop-i-preserved : goal.loop-i-preserved
-loop-i-preserved c = (omega (arith, c.loop-i.invariant.0), omega (arith, c.loop-i.invariant.1, c.bit-of.ensures, bits_before c.args.marks.now c.loop-i.i c.loop-i-test.true c.loop-i.invariant.0))
+loop-i-preserved c = (omega (arith, c.loop-i.invariant.0), omega (arith, c.loop-i.invariant.1, c.bit_of.ensures, bits_before c.args.marks.now c.loop-i.i c.loop-i-test.true c.loop-i.invariant.0))

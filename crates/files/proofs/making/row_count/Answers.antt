@@ -4,8 +4,8 @@ use Rattle.files.proofs.making.row_count.Goals as goal
 pub returns-then-values-columns-ne0 : goal.returns-then-values-columns-ne0
 returns-then-values-columns-ne0 c = not_whole c.args.values c.args.columns c.requires c.if-values-columns-ne0.true
 
-pub returns-then-values-columns-gt-ROWS-MAX : goal.returns-then-values-columns-gt-ROWS-MAX
-returns-then-values-columns-gt-ROWS-MAX c = too_many_rows c.args.values c.args.columns c.requires c.if-values-columns-gt-ROWS-MAX.true
+pub returns-then-values-columns-gt-ROWS_MAX : goal.returns-then-values-columns-gt-ROWS_MAX
+returns-then-values-columns-gt-ROWS_MAX c = too_many_rows c.args.values c.args.columns c.requires c.if-values-columns-gt-ROWS_MAX.true
 
 pub returns : goal.returns
-returns c = (count_is c.args.values c.args.columns c.if-values-columns-ne0.false, c.if-values-columns-gt-ROWS-MAX.false)
+returns c = (count_is c.args.values c.args.columns c.if-values-columns-ne0.false, c.if-values-columns-gt-ROWS_MAX.false)

@@ -8,4 +8,4 @@ pub returns : goal.returns
 returns c =
     let l = long_parts c.args.marks.now (length c.args.rows.now) (held_rows (length c.args.marks.now) (length c.args.rows.now) c.args.rows.now) in
     let p = ap (λ (x : ℕ). length (encode x)) c.pack.ensures in
-    omega (arith, l, p, c.size.ensures.long, c.size-2.ensures.long, c.size-3.ensures.long, c.rows-size.ensures.long)
+    omega (arith, l, p, c.size.ensures.long, c.size-2.ensures.long, c.size-3.ensures.long, c.rows_size.ensures.long)
