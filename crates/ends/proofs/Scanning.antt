@@ -1,10 +1,10 @@
 -- Scanning rows for those that hold some inputs.
-use Rattle.std.proofs.Common.{◌≡◌, ℕ, zero, suc, ◌+◌, ◌-◌, ◌*◌, ◌<◌, ◌≤◌, Bool, true, false, cond, eqb, ◌⊎◌, List, [], ◌∷◌, ◌++◌, map, length, get_or, take, drop, sym, refl, ap, ◌∙◌, subst, inl, inr, append_assoc, append-nil, arith, length-append, length-drop, take-append-drop}
+use Rattle.std.proofs.Common.{◌≡◌, ℕ, zero, suc, ◌+◌, ◌*◌, ◌<◌, ◌≤◌, true, false, List, [], ◌∷◌, ◌++◌, map, length, get_or, take, drop, sym, refl, ap, ◌∙◌, subst, inl, inr, append_assoc, append-nil, arith, length-append, length-drop, take-append-drop}
 use Rattle.std.proofs.lemmas.List.{take_more, take-map, map_push, get_or-map, get_or-drop, get_or-take, length-take, take_at, drop_at, drop-drop}
 use Rattle.std.proofs.lemmas.Bool.{cases_lt, both_ways}
 use Rattle.source.specs.declared.mark.Mark.{Mark}
 use Rattle.source.specs.declared.mark.Mark.TheVariants.{Given, Free}
-use Rattle.source.specs.Rows.{same, before, ascending, flat}
+use Rattle.source.specs.Rows.{before, ascending, flat}
 use Rattle.source.specs.Marks.{inputs_of, picked, matches, matching}
 use Rattle.source.proofs.Rows.{same_eq, eq_same, before_irrefl}
 use Rattle.source.proofs.Matching.{matching_append}

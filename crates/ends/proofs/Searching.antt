@@ -1,9 +1,9 @@
 -- Halving: rows that ascend, around a list of inputs.
-use Rattle.std.proofs.Common.{◌≡◌, ℕ, zero, suc, ◌+◌, ◌<◌, ◌≤◌, Bool, true, false, ◌⊎◌, List, [], ◌∷◌, map, length, get_or, take, sym, refl, ap, ◌∙◌, subst, inl, inr, arith}
+use Rattle.std.proofs.Common.{◌≡◌, ℕ, zero, suc, ◌+◌, ◌<◌, ◌≤◌, Bool, true, false, ◌⊎◌, List, [], ◌∷◌, length, get_or, take, sym, refl, ap, ◌∙◌, subst, inl, inr, arith}
 use lib.ListN.{length-map}
 use Rattle.std.proofs.lemmas.List.{take-take, get_or-map}
-use Rattle.std.proofs.lemmas.Bool.{cases_lt, false≢true, both_ways, and_parts}
-use Rattle.source.specs.Rows.{before, is_in, ascending, leads}
+use Rattle.std.proofs.lemmas.Bool.{cases_lt, false≢true, both_ways}
+use Rattle.source.specs.Rows.{before, is_in, ascending}
 use Rattle.source.proofs.Rows.{before_cases, before_at_head, before_in_tail, before_trans, in_head, in_tail, ascending_tail, head_before_all}
 use Rattle.ends.specs.Lookup.{cut, Below, Beyond}
 

@@ -1,12 +1,12 @@
 -- A divider is lawful, and answers one row.
-use Rattle.std.specs.Prelude.{◌≡◌, ℕ, ◌+◌, ◌/◌, ◌%◌, ◌^◌, ◌<◌, ◌≤◌, Bool, true, false, ◌&&◌, ◌||◌, List, [], ◌∷◌, ◌++◌, length, drop, None, ◌==◌, nat_lt, slice_index, slice_index_or, slice_set, refl}
-use Rattle.std.proofs.Common.{sym, ap, ◌∙◌, subst, arith, div-le_self}
+use Rattle.std.specs.Prelude.{◌≡◌, ℕ, ◌/◌, ◌%◌, ◌^◌, ◌<◌, ◌≤◌, Bool, true, false, ◌&&◌, ◌||◌, List, [], ◌∷◌, ◌++◌, length, drop, None, ◌==◌, nat_lt, slice_index, slice_index_or, slice_set, refl}
+use Rattle.std.proofs.Common.{sym, ap, subst, arith, div-le_self}
 use Rattle.std.proofs.Math.Nat.{mod-le}
-use Rattle.std.proofs.lemmas.Bool.{and_parts, and_from, eqb-true, eq-eqb, ltb-true, lt-ltb, false≢true}
+use Rattle.std.proofs.lemmas.Bool.{and_parts, and_from, eqb-true, ltb-true, lt-ltb, false≢true}
 use Rattle.source.specs.declared.mark.Mark.TheVariants.{Given, Free}
-use Rattle.source.specs.Rows.{same, before, is_in, ascending, all_values}
+use Rattle.source.specs.Rows.{same, before, is_in, ascending}
 use Rattle.source.specs.Marks.{picked, whole}
-use Rattle.source.specs.Meaning.{Meaning, Lawful, wanted}
+use Rattle.source.specs.Meaning.{Lawful, wanted}
 use Rattle.source.specs.Calls.{misuse, Answer, Answered}
 use Rattle.source.proofs.Rows.{same_eq, before_irrefl, in_head, in_tail}
 use Rattle.source.proofs.Calls.{refused_by_bar, later_same}

@@ -1,4 +1,6 @@
 // The two ends that a rack's sources stand on: registers and dividers.
+#![tactic(auto)]
+
 pub mod divider;
 mod lookup;
 pub mod register;

@@ -1,4 +1,4 @@
-use Rattle.std.proofs.Common.{◌≡◌, ℕ, ◌+◌, ◌-◌, List, ◌++◌, length, take, drop, sym, refl, ap, ◌∙◌, arith, rules}
+use Rattle.std.proofs.Common.{◌≡◌, ◌+◌, ◌-◌, length, refl, arith}
 use Rattle.std.proofs.lemmas.List.{drop-drop}
 use Rattle.ends.proofs.lookup.put_row.Goals as goal
 
@@ -7,5 +7,5 @@ returns c =
     let at = c.args.at in
     let n = length c.args.row.now in
     let e : at + n - at ≡ n = omega arith in
-    let row = c.copy-from-slice.ensures.after in
+    let row = c.copy_from_slice.ensures.after in
     rw (e, row, drop-drop n at c.args.memory.now) refl

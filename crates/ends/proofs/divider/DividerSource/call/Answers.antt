@@ -9,7 +9,7 @@ returns c =
     let inputs = c.args.inputs.now in
     let memory = c.args.memory.now in
     let marks = c.marks.ensures.value in
-    let admitted = c.in-ok-admit.ensures.admitted in
+    let admitted = c.in_ok-admit.ensures.admitted in
     record {
-      called = answered c.args.self.now.divisor inputs memory (subst (λ z. misuse z inputs (length memory) ≡ None) marks admitted.0) admitted.1 (admitted.2 ∙ ap inputs_of marks) (omega (arith, c.type-inv.inputs 0));
+      called = answered c.args.self.now.divisor inputs memory (subst (λ z. misuse z inputs (length memory) ≡ None) marks admitted.0) admitted.1 (admitted.2 ∙ ap inputs_of marks) (omega (arith, c.type_inv.inputs 0));
     }

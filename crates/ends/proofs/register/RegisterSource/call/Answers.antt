@@ -1,4 +1,4 @@
-use Rattle.std.proofs.Common.{◌≡◌, ◌≤◌, true, length, None, sym, ap, ◌∙◌, subst, arith}
+use Rattle.std.proofs.Common.{◌≡◌, ◌≤◌, length, None, sym, ap, ◌∙◌, subst, arith}
 use Rattle.source.specs.Rows.{ascending}
 use Rattle.source.specs.Marks.{inputs_of, matching}
 use Rattle.source.specs.Calls.{misuse}
@@ -8,12 +8,12 @@ use Rattle.ends.specs.Lookup.{cut, found, Written}
 use Rattle.ends.specs.Storing.{answered}
 use Rattle.ends.proofs.register.RegisterSource.call.Goals as goal
 
-pub write-matching-count-requires : goal.write-matching-count-requires
-write-matching-count-requires c =
+pub write_matching-count-requires : goal.write_matching-count-requires
+write_matching-count-requires c =
     let t = c.args.self.now.table in
     let s = table_storable t in
     let inputs = c.args.inputs.now in
-    let admitted = c.in-ok-admit.ensures.admitted in
+    let admitted = c.in_ok-admit.ensures.admitted in
     let marks : c.marks-2.result.now ≡ table_marks t = c.marks-2.ensures.value in
     let rows : cut (length c.marks-2.result.now) c.rows.result.now ≡ table_rows t = ap (λ z. cut (length z) c.rows.result.now) marks ∙ ap (cut (length (table_marks t))) c.rows.ensures.value ∙ cells_hold_rows t in
     record {
@@ -30,9 +30,9 @@ returns c =
     let s = table_storable t in
     let inputs = c.args.inputs.now in
     let memory = c.args.memory.now in
-    let admitted = subst (λ z. misuse z inputs (length memory) ≡ None) c.marks.ensures.value c.in-ok-admit.ensures.admitted.0 in
+    let admitted = subst (λ z. misuse z inputs (length memory) ≡ None) c.marks.ensures.value c.in_ok-admit.ensures.admitted.0 in
     let marks : c.marks-2.result.now ≡ table_marks t = c.marks-2.ensures.value in
     let rows : found c.marks-2.result.now inputs c.rows.result.now ≡ matching (table_marks t) inputs (table_rows t) = ap (λ z. found z inputs c.rows.result.now) marks ∙ ap (found (table_marks t) inputs) c.rows.ensures.value ∙ ap (matching (table_marks t) inputs) (cells_hold_rows t) in
     record {
-      called = answered (table_marks t) (table_rows t) s.ascends inputs memory _ c.write-matching-count.result admitted (c.write-matching-count.ensures.count ∙ ap length rows) (subst (λ z. Written z memory c.write-matching-count.new.memory) rows c.write-matching-count.ensures.written);
+      called = answered (table_marks t) (table_rows t) s.ascends inputs memory _ c.write_matching-count.result admitted (c.write_matching-count.ensures.count ∙ ap length rows) (subst (λ z. Written z memory c.write_matching-count.new.memory) rows c.write_matching-count.ensures.written);
     }
