@@ -14,7 +14,7 @@ use Rattle.files.specs.Held.{held_marks, held_rows}
 use Rattle.files.specs.Refusing.{Reads, Cut, Front, Crowded, earlier, Refuses}
 use Rattle.files.specs.Making.{Divided, Unfit}
 
--- the columns are well_formed: four cells for marks, of which so many are used, at most three given
+-- the columns are well-formed: four cells for marks, of which so many are used, at most three given
 pub record Sound (columns : Columns) : Type 0 where
   pub cells : length columns.marks ≡ 4
   pub some_column : 1 ≤ columns.width
