@@ -6,7 +6,7 @@ use Rattle.faults.specs.declared.refusal.Refusal.TheVariants.{MemoryTooShort, No
 use Rattle.faults.specs.Faults.{bare, layered, from_source, next_source}
 use Rattle.source.specs.Meaning.{Meaning}
 use Rattle.source.specs.Calls.{refusal}
-use Rattle.source.specs.Racks.{meaning_at, absent, refusal_by, refusal_at, RefusedAt}
+use Rattle.source.specs.Racks.{meaning_at, absent, refusal_by, RefusedAt}
 
 absent_stays : (room : ℕ) → next_source (absent room) ≡ absent room
 absent_stays room = go (ltb room 256)

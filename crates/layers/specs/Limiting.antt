@@ -1,5 +1,5 @@
 -- A quota over a lawful source is lawful.
-use Rattle.std.specs.Prelude.{ℕ, List, ◌==◌}
+use Rattle.std.specs.Prelude.{ℕ, ◌==◌}
 use Rattle.std.proofs.Common.{arith}
 use Rattle.std.proofs.lemmas.Bool.{cond_both}
 use Rattle.faults.specs.declared.refusal.Refusal.TheVariants.{Spent}

@@ -1,19 +1,19 @@
 -- A memo over a lawful source is lawful, and answers as that source does.
-use Rattle.std.specs.Prelude.{◌≡◌, ℕ, ◌+◌, ◌<◌, ◌≤◌, Bool, true, false, cond, ◌&&◌, ◌||◌, ◌⊎◌, List, [], ◌∷◌, ◌++◌, map, length, take, drop, Some, None, vec_items, vec_len, MatchBool, Option, nat_le, nat_lt, refl}
+use Rattle.std.specs.Prelude.{◌≡◌, ℕ, ◌+◌, ◌<◌, ◌≤◌, Bool, true, false, cond, ◌&&◌, ◌⊎◌, List, [], ◌∷◌, ◌++◌, map, length, take, drop, Some, None, vec_items, vec_len, MatchBool, Option, nat_le, nat_lt, refl}
 use Rattle.std.proofs.Common.{sym, ap, ◌∙◌, subst, inl, inr, arith}
 use Rattle.std.proofs.Math.Path.{fun_ext}
 use Rattle.std.proofs.lemmas.List.{take_more_set, map_push}
-use Rattle.std.proofs.lemmas.Bool.{and_parts, and_from, and_right, or_cases, leb-true, le-leb, ltb-true, cases_Bool, both_ways, cond-true, cond-false, false≢true, true≢false}
+use Rattle.std.proofs.lemmas.Bool.{and_parts, and_from, or_cases, leb-true, le-leb, ltb-true, cases_Bool, both_ways, cond-true, cond-false, false≢true}
 use Rattle.source.specs.declared.mark.Mark.{Mark}
 use Rattle.source.specs.Rows.{same, is_in, ascending, flat}
-use Rattle.source.specs.Marks.{picked, matches, whole, same_marks, inputs_of, all_whole}
+use Rattle.source.specs.Marks.{picked, matches, whole, same_marks, all_whole}
 use Rattle.source.specs.Meaning.{Bar, clear, barred, Meaning, Lawful, wanted, Proper, raised_bar}
 use Rattle.faults.specs.declared.fault.Fault.{Fault}
 use Rattle.source.specs.Calls.{misuse, bar_fault, earlier, MayBecome, Later, Answered}
 use Rattle.source.proofs.Rows.{same_eq, eq_same, in_head, in_tail}
 use Rattle.source.proofs.Matching.{each_whole, whole_all}
 use Rattle.source.proofs.Unique.{within_no_longer}
-use Rattle.source.proofs.Columns.{same_marks_eq, same_marks_refl}
+use Rattle.source.proofs.Columns.{same_marks_eq}
 use Rattle.source.proofs.Calls.{refused_by_bar, later_same, raised_proper, raised_becomes}
 use Rattle.layers.specs.declared.entry.Entry.{Entry}
 use Rattle.layers.specs.declared.table.Table.{Table}

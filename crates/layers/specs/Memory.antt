@@ -1,5 +1,5 @@
 -- What a memo remembers, and what it means.
-use Rattle.std.specs.Prelude.{◌≡◌, ℕ, ◌+◌, Bool, true, cond, ◌&&◌, List, [], ◌∷◌, ◌++◌, map, length, take, drop, Some, None, Ok, Err, vec_items, vec_len, MatchBool, Option, Result, MatchOption, nat_le, nat_lt, slice_set}
+use Rattle.std.specs.Prelude.{◌≡◌, ℕ, ◌+◌, Bool, cond, ◌&&◌, List, [], ◌∷◌, ◌++◌, map, length, take, drop, Some, None, Ok, Err, vec_items, vec_len, MatchBool, Option, Result, MatchOption, nat_le, nat_lt, slice_set}
 use Rattle.faults.specs.declared.fault.Fault.{Fault}
 use Rattle.std.specs.Vec.{with_item}
 use Rattle.source.specs.declared.mark.Mark.{Mark}

@@ -1,4 +1,6 @@
 // What stands over sources: layers over any one of them, and racks of several.
+#![tactic(auto)]
+
 mod entry;
 pub mod memo;
 pub mod quota;

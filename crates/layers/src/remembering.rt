@@ -71,7 +71,7 @@ impl Entry {
         requires room { 32 ≤ length memory.now }
         requires count { count ≤ 8 }
         requires sound { sound marks.now inputs.now (rows_in (length marks.now) count memory.now) ≡ true }
-        ensures { kept result ≡ record { marks = marks.entry.now; inputs = inputs.now; rows = rows_in (length marks.entry.now) count memory.now } }
+        ensures { kept result ≡ record { marks = marks.now; inputs = inputs.now; rows = rows_in (length marks.now) count memory.now } }
     {
         let marks_kept = four_marks(marks);
         let inputs_kept = three_values(inputs);
@@ -156,7 +156,7 @@ impl Table {
         requires given { length inputs.now ≤ 3 }
         requires room { 32 ≤ length memory.now }
         requires sound { count ≤ 8 → sound marks.now inputs.now (rows_in (length marks.now) count memory.now) ≡ true }
-        ensures { Remembers self.old self.new (record { marks = marks.entry.now; inputs = inputs.now; rows = rows_in (length marks.entry.now) count memory.now }) }
+        ensures { Remembers self.old self.new (record { marks = marks.now; inputs = inputs.now; rows = rows_in (length marks.now) count memory.now }) }
     {
         if count > ENTRY_ROWS {
             return;

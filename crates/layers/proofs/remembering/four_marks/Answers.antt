@@ -4,4 +4,4 @@ use Rattle.layers.specs.Chunking.{cells_hold}
 use Rattle.layers.proofs.remembering.four_marks.Goals as goal
 
 pub returns : goal.returns
-returns c = rw sub-zero (cells_hold _ _ _ _ c.copy-from-slice.ensures.after refl)
+returns c = rw sub-zero (cells_hold _ _ _ _ c.copy_from_slice.ensures.after refl)

@@ -1,4 +1,4 @@
-use Rattle.std.proofs.Common.{◌≡◌, true, length, Some, None, sym, refl, ap, ◌∙◌, subst, arith, MatchOption}
+use Rattle.std.proofs.Common.{◌≡◌, true, length, Some, None, sym, refl, ap, ◌∙◌, subst, arith}
 use Rattle.source.specs.Marks.{inputs_of}
 use Rattle.source.specs.Calls.{misuse, Answered}
 use Rattle.layers.specs.Memory.{kept_all, recalled, Remembers}
@@ -12,7 +12,7 @@ returns-in-Some g c =
     let m = g.S.Source.meaning c.args.self.now.below in
     let inputs = c.args.inputs.now in
     let found = c.in-Some.ensures in
-    let admitted = subst (λ z. misuse z inputs (length c.args.memory.now) ≡ None) c.marks.ensures.value c.in-ok-admit.ensures.admitted.0 in
+    let admitted = subst (λ z. misuse z inputs (length c.args.memory.now) ≡ None) c.marks.ensures.value c.in_ok-admit.ensures.admitted.0 in
     let recalled_rows : recalled (kept_all table) m.marks inputs ≡ Some found.0 = subst (λ z. recalled (kept_all table) z inputs ≡ Some found.0) c.marks-2.ensures.value found.1 in
     record {
       called = answered_from_entry (kept_all table) m inputs c.args.memory.now c.recall.new.memory c.in-Some.count found.0 (table_sound table) admitted recalled_rows found.2 found.3;
@@ -26,7 +26,7 @@ remember-requires g c =
     let m = g.S.Source.meaning s in
     let w = g.met.S.Source.lawful s in
     let inputs = c.args.inputs.now in
-    let admitted = c.in-ok-admit.ensures.admitted in
+    let admitted = c.in_ok-admit.ensures.admitted in
     let b = c.in-Ok.ensures.called in
     let marks : c.marks-in-Ok.result.now ≡ m.marks = c.marks-in-Ok.ensures.value ∙ b.later.marks in
     record {
@@ -45,7 +45,7 @@ returns-in-Ok g c =
     let table = c.args.self.now.table in
     let inputs = c.args.inputs.now in
     let memory = c.args.memory.now in
-    let none = c.in-default.ensures in
+    let none = c.in_default.ensures in
     let new = subst (λ z. recalled (kept_all table) z inputs ≡ None) c.marks-2.ensures.value none.0 in
     let b = subst (λ z. Answered m m' inputs z c.call.new.memory c.in-Ok.count) none.1 c.in-Ok.ensures.called in
     let marks : c.marks-in-Ok.result.now ≡ m.marks = c.marks-in-Ok.ensures.value ∙ b.later.marks in

@@ -1,4 +1,4 @@
-use Rattle.std.proofs.Common.{◌≡◌, ◌<◌, map, length, take, vec_items, vec_len, sym, refl, ap, ◌∙◌, subst, arith}
+use Rattle.std.proofs.Common.{◌≡◌, ◌<◌, map, length, take, vec_items, sym, refl, ap, ◌∙◌, subst, arith}
 use Rattle.layers.specs.Memory.{kept, recalled, Writes}
 use Rattle.layers.specs.Recalling.{none_yet, found_here, take_min}
 use Rattle.layers.proofs.table.Table.recall.Goals as goal
