@@ -1,4 +1,6 @@
 // What the texts of catalogues and queries share: bytes, tokens, names, and the word at a fault.
+#![tactic(auto)]
+
 pub mod bounded;
 pub mod class;
 pub mod flaw;

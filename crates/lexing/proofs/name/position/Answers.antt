@@ -11,13 +11,13 @@ loop-i-init c = shifted_none _
 
 pub returns-then-eq : goal.returns-then-eq
 returns-then-eq c =
-    let d = same_decided _ _ _ (slice_eq-Decides Decides-eqb _ _ _ c.eq.ensures) in
-    record { value = read_hit _ _ _ _ c.index-names-i.result c.loop-i-test.true c.index-names-i.is c.as-slice.ensures.value c.loop-i.invariant (sym d ∙ c.if-eq.true) }
+    let d = same_decided c.args.token.now c.as_slice.result.now _ (slice_eq-Decides Decides-eqb c.args.token.now c.as_slice.result.now _ c.eq.ensures) in
+    record { value = read_hit _ _ _ _ c.index-names-i.result c.loop-i-test.true c.index-names-i.is c.as_slice.ensures.value c.loop-i.invariant (sym d ∙ c.if-eq.true) }
 
 pub loop-i-preserved : goal.loop-i-preserved
 loop-i-preserved c =
-    let d = same_decided _ _ _ (slice_eq-Decides Decides-eqb _ _ _ c.eq.ensures) in
-    read_miss _ _ _ _ c.index-names-i.result c.loop-i-test.true c.index-names-i.is c.as-slice.ensures.value c.loop-i.invariant (sym d ∙ c.if-eq.false)
+    let d = same_decided c.args.token.now c.as_slice.result.now _ (slice_eq-Decides Decides-eqb c.args.token.now c.as_slice.result.now _ c.eq.ensures) in
+    read_miss _ _ _ _ c.index-names-i.result c.loop-i-test.true c.index-names-i.is c.as_slice.ensures.value c.loop-i.invariant (sym d ∙ c.if-eq.false)
 
 pub returns : goal.returns
 returns c =

@@ -11,7 +11,7 @@ returns-then-text-at-eq45 c = record {
 
 pub returns : goal.returns
 returns c = record {
-  cut = λ h. byte_cut c.args.text.now c.args.at h (sym c.if-is-lettered.ensures.value)
+  cut = λ h. byte_cut c.args.text.now c.args.at h (sym c.if-is_lettered.ensures.value)
       (λ a b d. elim c.else-first-eq58.branch [
         | else-first-eq58-via-then-first-eq58+then-at-text-2+else-text-at-eq45 w ↦ w.if-text-at-eq45.false d
         | else-first-eq58-via-then-first-eq58+else-at-text-2 w ↦ omega (arith, w.if-at-text-2.false)
