@@ -1,6 +1,6 @@
 -- The steps of the reader go along with the grammar of catalogues.
-use Rattle.std.proofs.Common.{◌≡◌, ℕ, ◌+◌, ◌≤◌, Bool, true, false, cond, not, ◌&&◌, ◌||◌, eqb, ltb, leb, ◌⊎◌, List, [], ◌∷◌, ◌++◌, length, Some, None, sym, refl, ap, ◌∙◌, subst, inl, inr, append_assoc, append-nil, arith, ltb-true, lt-ltb, le-leb, leb-true}
-use borrow.Author.Tests.{not_true}
+use Rattle.std.proofs.Common.{◌≡◌, ℕ, ◌≤◌, Bool, true, false, cond, not, ◌&&◌, ◌||◌, eqb, ltb, leb, ◌⊎◌, List, [], ◌∷◌, ◌++◌, length, Some, None, sym, refl, ap, ◌∙◌, subst, inl, inr, append_assoc, append-nil, arith, ltb-true, lt-ltb, le-leb, leb-true}
+use borrow.Author.Tests.{not-true}
 use Rattle.std.proofs.lemmas.Bool.{or_cases, or_left, or_right, and_parts}
 use Rattle.faults.specs.declared.refusal.Refusal.{Refusal}
 use Rattle.faults.specs.declared.refusal.Refusal.TheVariants.{CatalogueForm, CatalogueLimit, SourceNamedTwice}
@@ -162,7 +162,7 @@ over_cause (spaced ls n cs) t e = go (or_cases (leb 4 (length cs)) (crowded t (k
     by (inl h) = long_kind ls n cs t (ltb-true 16 (length t) h)
     by (inr h) =
         let z = and_parts (not (among t (known ls cs))) (leb 16 (length (known ls cs))) h in
-        seventeenth_kind ls n cs t (not_true (among t (known ls cs)) z.0) (leb-true 16 (length (known ls cs)) z.1)
+        seventeenth_kind ls n cs t (not-true (among t (known ls cs)) z.0) (leb-true 16 (length (known ls cs)) z.1)
 
     go : (leb 4 (length cs) ≡ true) ⊎ (crowded t (known ls cs) ≡ true) → Cause (spaced ls n cs) t CatalogueLimit
     go (inl h) = fifth_column ls n cs t (leb-true 4 (length cs) h)

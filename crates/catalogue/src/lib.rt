@@ -1,5 +1,7 @@
 // The catalogue of a rack: the names of its sources and the kinds and marks of their columns, read
 // from a text.
+#![tactic(auto)]
+
 pub mod columns;
 pub mod racks;
 mod reader;

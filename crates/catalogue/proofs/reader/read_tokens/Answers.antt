@@ -13,14 +13,14 @@ pub returns-in-Some : goal.returns-in-Some
 returns-in-Some c =
     let i = c.loop-place.invariant.1 in
     let t = c.in-Some.ensures.taken i.0 i.1 in
-    record { gone = i.2 ∙ turn_off sheets steps lawful c.args.text.now c.loop-place.place c.token-end-end.result i.0 c.in-Some.refusal (c.token-end-end.ensures.cut c.loop-place-test.true) refl (sym t.told) }
+    record { gone = i.2 ∙ turn_off sheets steps lawful c.args.text.now c.loop-place.place c.token_end-end.result i.0 c.in-Some.refusal (c.token_end-end.ensures.cut c.loop-place-test.true) refl (sym t.told) }
 
 pub loop-place-preserved : goal.loop-place-preserved
 loop-place-preserved c =
     let i = c.loop-place.invariant.1 in
-    let u = c.token-end-end.ensures.cut c.loop-place-test.true in
-    let t = c.in-default.ensures.taken i.0 i.1 in
-    (u.within, (next i.0 _, t.tied refl, i.2 ∙ turn_on sheets steps lawful c.args.text.now c.loop-place.place c.token-end-end.result i.0 u refl (sym t.told)))
+    let u = c.token_end-end.ensures.cut c.loop-place-test.true in
+    let t = c.in_default.ensures.taken i.0 i.1 in
+    (u.within, (next i.0 _, t.tied refl, i.2 ∙ turn_on sheets steps lawful c.args.text.now c.loop-place.place c.token_end-end.result i.0 u refl (sym t.told)))
 
 pub returns : goal.returns
 returns c =

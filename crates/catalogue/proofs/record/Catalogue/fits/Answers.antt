@@ -1,4 +1,4 @@
-use Rattle.std.proofs.Common.{◌≡◌, ℕ, ◌<◌, ◌≤◌, length, sym, refl, ap, ◌∙◌, arith}
+use Rattle.std.proofs.Common.{◌≡◌, ◌≤◌, length, sym, ◌∙◌, arith}
 use Rattle.std.proofs.lemmas.List.{length-map}
 use Rattle.lexing.specs.Lists.{held}
 use Rattle.lexing.proofs.Holding.{length_held, length_most, names_length}
@@ -22,32 +22,32 @@ many c =
 pub returns-then-count : goal.returns-then-count
 returns-then-count g c =
     let m = many c.args.self.now in
-    let n = c.source-count-count.ensures.value in
+    let n = c.source_count-count.ensures.value in
     let other : c.count.result ≡ length (source_columns c.args.self.now) → ⊥ = λ e. c.if-count.true (e ∙ m.0 ∙ sym n) in
     record { value = uneven_told _ _ c.count.result c.count.ensures.value (omega arith) other }
 
-pub returns-in-default : goal.returns-in-default
-returns-in-default g c =
+pub returns-in_default : goal.returns-in_default
+returns-in_default g c =
     let m = many c.args.self.now in
-    let n = c.source-count-count.ensures.value in
-    record { value = no_source _ _ c.loop-source.source (omega arith) c.in-default.ensures.value ∙ sym c.loop-source.invariant }
+    let n = c.source_count-count.ensures.value in
+    record { value = no_source _ _ c.loop-source.source (omega arith) c.in_default.ensures.value ∙ sym c.loop-source.invariant }
 
-pub returns-then-not-same-marks : goal.returns-then-not-same-marks
-returns-then-not-same-marks g c =
+pub returns-then-not-same_marks : goal.returns-then-not-same_marks
+returns-then-not-same_marks g c =
     let m = many c.args.self.now in
-    let n = c.source-count-count.ensures.value in
-    record { value = not_as_there _ _ c.loop-source.source _ _ (omega arith) c.marks-in-loop-source.ensures.value c.in-Some.ensures.value c.if-not-same-marks.ensures.value ∙ sym c.loop-source.invariant }
+    let n = c.source_count-count.ensures.value in
+    record { value = not_as_there _ _ c.loop-source.source _ _ (omega arith) c.marks-in-loop-source.ensures.value c.in-Some.ensures.value c.if-not-same_marks.ensures.value ∙ sym c.loop-source.invariant }
 
 pub loop-source-preserved : goal.loop-source-preserved
 loop-source-preserved g c =
     let m = many c.args.self.now in
-    let n = c.source-count-count.ensures.value in
-    c.loop-source.invariant ∙ as_there _ _ c.loop-source.source _ _ (omega arith) c.marks-in-loop-source.ensures.value c.in-Some.ensures.value c.if-not-same-marks.ensures.value
+    let n = c.source_count-count.ensures.value in
+    c.loop-source.invariant ∙ as_there _ _ c.loop-source.source _ _ (omega arith) c.marks-in-loop-source.ensures.value c.in-Some.ensures.value c.if-not-same_marks.ensures.value
 
 pub returns : goal.returns
 returns g c =
     let m = many c.args.self.now in
-    let n = c.source-count-count.ensures.value in
+    let n = c.source_count-count.ensures.value in
     let k = c.count.ensures.value in
     let s = c.if-count.false in
     record { value = all_compared _ _ c.loop-source.source (omega arith) (omega arith) ∙ sym c.loop-source.invariant }

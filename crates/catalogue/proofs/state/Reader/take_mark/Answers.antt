@@ -4,9 +4,9 @@ use Rattle.source.specs.declared.mark.Mark.TheVariants.{Given, Free}
 use Rattle.catalogue.proofs.Taking.{has_mark}
 use Rattle.catalogue.proofs.state.Reader.take_mark.Goals as goal
 
-pub returns-else-self-ge-GIVEN-MAX : goal.returns-else-self-ge-GIVEN-MAX
-returns-else-self-ge-GIVEN-MAX c = record {
-  taken = λ ls n cs k tied. has_mark c.args.self.now c.args.token.now ls n cs k c.push.new.self c.push-in-Given.new.self Given _ c.push.result c.push-in-Given.result tied (ap (λ (m : Mark). Some m) (sym c.in-Given.is) ∙ c.in-Some.ensures.value) (λ e. c.if-self-ge-GIVEN-MAX.false) refl c.push.ensures.room c.push.ensures.items c.push-in-Given.ensures.room c.push-in-Given.ensures.items;
+pub returns-else-self-ge-GIVEN_MAX : goal.returns-else-self-ge-GIVEN_MAX
+returns-else-self-ge-GIVEN_MAX c = record {
+  taken = λ ls n cs k tied. has_mark c.args.self.now c.args.token.now ls n cs k c.push.new.self c.push-in-Given.new.self Given _ c.push.result c.push-in-Given.result tied (ap (λ (m : Mark). Some m) (sym c.in-Given.is) ∙ c.in-Some.ensures.value) (λ e. c.if-self-ge-GIVEN_MAX.false) refl c.push.ensures.room c.push.ensures.items c.push-in-Given.ensures.room c.push-in-Given.ensures.items;
 }
 
 pub returns-in-Free : goal.returns-in-Free
