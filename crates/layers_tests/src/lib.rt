@@ -1,4 +1,6 @@
 // Examples of layers and racks, proved to be safe and then run.
+#![tactic(auto)]
+
 #[cfg(test)]
 mod calls;
 #[cfg(test)]

@@ -1,7 +1,7 @@
 // Sources side by side.
 use crate::calls::{divider, register};
 use layers::{Beside, One, Quota};
-use source::{ANSWER_ROOM, Rack, Source};
+use source::{ANSWER_ROOM, Rack};
 use std::test::Fail;
 
 // The number, layer and source of a refusal, or zeros.
