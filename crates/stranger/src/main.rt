@@ -1,5 +1,7 @@
 // Plays somebody else: an end and a layer that the library does not know, written against its public
 // interface alone, in a rack with a divider under a memo and a quota.
+#![tactic(auto)]
+
 mod counted;
 mod sealed;
 
@@ -9,7 +11,7 @@ use ends::Divider;
 use faults::Fault;
 use layers::{Beside, Memo, One, Quota};
 use sealed::Sealed;
-use source::{ANSWER_ROOM, Rack, Source};
+use source::{ANSWER_ROOM, Rack};
 
 // Prints what is known of a fault.
 fn show_fault(rt: &impl Print, fault: Fault) -> anyhow::Result<()> {
