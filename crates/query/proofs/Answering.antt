@@ -18,7 +18,7 @@ use Rattle.query.specs.declared.term.Literal as rl
 use Rattle.query.specs.declared.record.Query.{Query}
 use Rattle.query.specs.declared.state.Reader.{Reader}
 use Rattle.query.specs.Terms.{is_variable}
-use Rattle.query.specs.Plain.{Literal, plain_literal, all_fitting, all_occur, sound}
+use Rattle.query.specs.Plain.{plain_literal, all_fitting, all_occur, sound}
 use Rattle.query.specs.Records.{literal_of, Records}
 use Rattle.query.specs.Rules.{Atom, items, items_in, commas, arrow, write_literals, write_atom, Have, stopped, known, kind_in, queries}
 use Rattle.query.specs.Reading.{steps, Tied, GoneThrough}

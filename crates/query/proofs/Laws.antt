@@ -1,6 +1,6 @@
 -- The steps of the reader go along with the grammar of queries.
-use Rattle.std.proofs.Common.{◌≡◌, ℕ, ◌+◌, ◌≤◌, Bool, true, false, cond, not, ◌&&◌, eqb, ltb, leb, ◌⊎◌, List, [], ◌∷◌, ◌++◌, length, get_or, Some, None, Option, sym, refl, ap, ◌∙◌, subst, inl, inr, append_assoc, append-nil, arith, ltb-true, lt-ltb, ne_eqb, le-leb, leb-true}
-use borrow.Author.Tests.{not_true, eqb-false}
+use Rattle.std.proofs.Common.{◌≡◌, ℕ, ◌≤◌, Bool, true, false, cond, not, ◌&&◌, eqb, ltb, leb, ◌⊎◌, List, [], ◌∷◌, ◌++◌, length, get_or, Some, None, Option, sym, refl, ap, ◌∙◌, subst, inl, inr, append_assoc, append-nil, arith, ltb-true, lt-ltb, ne_eqb, le-leb, leb-true}
+use borrow.Author.Tests.{not-true, eqb-false}
 use Rattle.std.proofs.lemmas.Bool.{or_cases, or_left, or_right, and_parts, and_from}
 use Rattle.faults.specs.declared.refusal.Refusal.{Refusal}
 use Rattle.faults.specs.declared.refusal.Refusal.TheVariants.{QueryForm, UnfitLiteral, QueryLimit, VariableInTwoKinds, ConstantTooLarge}
@@ -157,7 +157,7 @@ ending (stopped us a) g = ([], refl, refl)
 module _ (cat : Described) where
   stray_cause : (p : Part) (t : Token) → stray cat p t ≡ true → Cause cat p t UnfitLiteral
   stray_cause (wanted []) t e = absurd (clash e refl)
-  stray_cause (wanted (h ∷ ls)) t e = unknown_source h ls t (not_true (among t cat.names) e)
+  stray_cause (wanted (h ∷ ls)) t e = unknown_source h ls t (not-true (among t cat.names) e)
   stray_cause (named us n) t e = absurd (clash e refl)
   stray_cause (due [] n ts) t e = absurd (clash e refl)
   stray_cause (due (h ∷ ls) n ts) t e = term_too_many h ls n ts t (leb-true (length (kinds_at cat n)) (length ts) e)
@@ -175,7 +175,7 @@ module _ (cat : Described) where
       go (inl h) = long_variable us n ts t (and_0 (is_variable t) (crowded t (known us ts)) e) (ltb-true 16 (length t) h)
       go (inr h) =
           let z = and_parts (not (among t (known us ts))) (leb 16 (length (known us ts))) h in
-          seventeenth_variable us n ts t (and_0 (is_variable t) (crowded t (known us ts)) e) (not_true (among t (known us ts)) z.0) (leb-true 16 (length (known us ts)) z.1)
+          seventeenth_variable us n ts t (and_0 (is_variable t) (crowded t (known us ts)) e) (not-true (among t (known us ts)) z.0) (leb-true 16 (length (known us ts)) z.1)
 
   over_cause : (p : Part) (t : Token) → over p t ≡ true → Cause cat p t QueryLimit
   over_cause (wanted []) t e = long_head t (ltb-true 16 (length t) e)
@@ -195,7 +195,7 @@ module _ (cat : Described) where
     where
       go : (o : Option ℕ) → kind_of cat t ls n ts ≡ o → other_kind o (get_or (kinds_at cat n) (length ts) 0) ≡ true → Cause cat (due (h ∷ ls) n ts) t VariableInTwoKinds
       go None f k = absurd (clash k refl)
-      go (Some j) f k = two_kinds h ls n ts t j (and_0 (is_variable t) (other_kind (kind_of cat t ls n ts) (get_or (kinds_at cat n) (length ts) 0)) e) f (eqb-false j (get_or (kinds_at cat n) (length ts) 0) (not_true (eqb j (get_or (kinds_at cat n) (length ts) 0)) k))
+      go (Some j) f k = two_kinds h ls n ts t j (and_0 (is_variable t) (other_kind (kind_of cat t ls n ts) (get_or (kinds_at cat n) (length ts) 0)) e) f (eqb-false j (get_or (kinds_at cat n) (length ts) 0) (not-true (eqb j (get_or (kinds_at cat n) (length ts) 0)) k))
   mixed_cause (listed us n ts x) t e = absurd (clash e refl)
   mixed_cause (closed us a) t e = absurd (clash e refl)
   mixed_cause (stopped us a) t e = absurd (clash e refl)

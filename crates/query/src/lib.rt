@@ -1,4 +1,6 @@
 // Queries over a catalogue, read from a text.
+#![tactic(auto)]
+
 mod ends;
 mod kinds;
 mod reader;

@@ -55,5 +55,5 @@ pub(crate) fn constant_of(token: &[u8]) -> Option<u32>
 pub(crate) fn is_arrow(token: &[u8]) -> bool
     ensures value { result ≡ is_arrow token.now }
 {
-    token == b":-"
+    token == b":-".as_slice()
 }

@@ -12,11 +12,11 @@ pub returns-in-Upper : goal.returns-in-Upper
 returns-in-Upper c =
     let t = c.args.token.now in
     let e = variable_tests t c.if-token-eq0.false in
-    record { value = c.all-belong.ensures.value ∙ ap (all lettered) (take_rest t 1) ∙ sym (e ∙ rw (sym c.in-Upper.ensures.value) refl) }
+    record { value = c.all_belong.ensures.value ∙ ap (all lettered) (take_rest t 1) ∙ sym (e ∙ rw (sym c.in-Upper.ensures.value) refl) }
 
-pub returns-in-default : goal.returns-in-default
-returns-in-default c =
+pub returns-in_default : goal.returns-in_default
+returns-in_default c =
     let t = c.args.token.now in
     let e = variable_tests t c.if-token-eq0.false in
-    let n : is_upper (class (get_or t 0 0)) ≡ false = not_upper _ (λ z. c.in-default.not-Upper (c.class-of.ensures.value ∙ z)) in
+    let n : is_upper (class (get_or t 0 0)) ≡ false = not_upper _ (λ z. c.in_default.not-Upper (c.class_of.ensures.value ∙ z)) in
     record { value = sym (e ∙ rw n refl) }

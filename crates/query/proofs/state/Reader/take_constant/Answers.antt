@@ -7,12 +7,12 @@ returns-then-len-kinds c = record {
   taken = λ cat h ls n ts tied. constant_too_many cat c.args.self.now h ls n ts tied c.len.result c.len.ensures.value _ c.kinds-kinds.ensures.value c.args.token.now c.requires.form (constant_alone _ c.requires.form) _ c.if-len-kinds.true;
 }
 
-pub constant-of-requires : goal.constant-of-requires
-constant-of-requires c = record { digits = constant_digits _ c.requires.form }
+pub constant_of-requires : goal.constant_of-requires
+constant_of-requires c = record { digits = constant_digits _ c.requires.form }
 
-pub returns-in-default : goal.returns-in-default
-returns-in-default c = record {
-  taken = λ cat h ls n ts tied. over_largest cat c.args.self.now h ls n ts tied c.len.result c.len.ensures.value _ c.kinds-kinds.ensures.value c.args.token.now c.requires.form (constant_alone _ c.requires.form) _ c.if-len-kinds.false c.in-default.ensures.value;
+pub returns-in_default : goal.returns-in_default
+returns-in_default c = record {
+  taken = λ cat h ls n ts tied. over_largest cat c.args.self.now h ls n ts tied c.len.result c.len.ensures.value _ c.kinds-kinds.ensures.value c.args.token.now c.requires.form (constant_alone _ c.requires.form) _ c.if-len-kinds.false c.in_default.ensures.value;
 }
 
 pub returns : goal.returns
