@@ -1,20 +1,17 @@
 -- The literals of a query as a conjunction.
-use Rattle.std.specs.Prelude.{◌≡◌, ℕ, zero, suc, ◌<◌, ◌≤◌, Bool, true, ◌&&◌, List, [], ◌∷◌, map, length, get_or, ◌==◌, nat_lt, slice_index_or, refl}
-use Rattle.std.proofs.Common.{sym, ap, ◌∙◌, subst, arith, length-take}
+use Rattle.std.specs.Prelude.{◌≡◌, ℕ, zero, suc, ◌<◌, ◌≤◌, true, ◌&&◌, List, [], ◌∷◌, map, length, get_or, ◌==◌, nat_lt, slice_index_or}
+use Rattle.std.proofs.Common.{sym, ◌∙◌, subst, arith, length-take}
 use mathlib.Core.List.{Memᴰ}
 use Rattle.std.proofs.lemmas.List.{get_or-map, get_or_past, length-map}
 use Rattle.std.proofs.lemmas.Bool.{and_parts, eqb-true, ltb-true}
-use Rattle.source.specs.declared.mark.Mark.{Mark}
-use Rattle.source.specs.Marks.{inputs_of}
 use Rattle.lexing.specs.Lists.{held}
-use Rattle.catalogue.specs.Plain.{PlainColumns, plain, no_columns, shaped, all_shaped, all_under}
+use Rattle.catalogue.specs.Plain.{PlainColumns, no_columns, shaped, all_shaped}
 use Rattle.catalogue.specs.Records.{source_columns}
 use Rattle.query.specs.declared.term.Term as record_term
-use Rattle.query.specs.declared.term.Term.TheVariants.{Constant, Variable}
 use Rattle.query.specs.declared.term.Literal as record_literal
 use Rattle.query.specs.declared.record.Query.{Query}
 use Rattle.query.specs.Plain.{plain_term, plain_literal, below, all_below, fitting, all_fitting, all_occur}
-use Rattle.ordering.specs.Literals.{Literal, no_literal, literal_at, Numbered, Proper, WellFormed}
+use Rattle.ordering.specs.Literals.{no_literal, literal_at, Numbered, Proper, WellFormed}
 use Rattle.ordering.specs.Asked.{asked, asked_literals}
 
 pub literal_past : (columns : List PlainColumns) (ls : List record_literal.Literal) (place : ℕ) → length ls ≤ place → literal_at (map (asked columns) ls) place ≡ no_literal

@@ -1,4 +1,6 @@
 // Executable orders of a conjunctive query's literals.
+#![tactic(auto)]
+
 pub mod conjunction;
 mod picking;
 pub mod places;

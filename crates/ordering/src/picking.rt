@@ -15,9 +15,9 @@ fn can_follow<Q: Conjunction>(
     bound: &[bool; VARIABLE_MAX],
     place: u8,
 ) -> bool
-    requires tells { Tells (literals query.now) taken.now bound.now }
-    requires within { place < length (literals query.now) }
-    ensures next { Decides result (Next (literals query.now) taken.now place) }
+    requires tells { Tells (Q.literals query.now) taken.now bound.now }
+    requires within { place < length (Q.literals query.now) }
+    ensures next { Decides result (Next (Q.literals query.now) taken.now place) }
 {
     if is_taken(taken, place) {
         return false;
@@ -28,8 +28,8 @@ fn can_follow<Q: Conjunction>(
 
 // The lowest place that can be called next.
 fn pick<Q: Conjunction>(query: &Q, taken: &[u8], bound: &[bool; VARIABLE_MAX]) -> Option<u8>
-    requires tells { Tells (literals query.now) taken.now bound.now }
-    ensures picked { MatchOption result (Stuck (literals query.now) taken.now) (Picks (literals query.now) taken.now) }
+    requires tells { Tells (Q.literals query.now) taken.now bound.now }
+    ensures picked { MatchOption result (Stuck (Q.literals query.now) taken.now) (Picks (Q.literals query.now) taken.now) }
 {
     for i in 0..query.count() {
         let place = i as u8;
@@ -43,8 +43,8 @@ fn pick<Q: Conjunction>(query: &Q, taken: &[u8], bound: &[bool; VARIABLE_MAX]) -
 // The first executable order of a query's literals, compared place by place. Where there is none:
 // 17, with the lowest place that lies in no executable order of any selection of the literals.
 pub fn order<Q: Conjunction>(query: &Q) -> Result<Order, Fault>
-    ensures answered { Answered (literals query.now) result }
-    ensures only { Only (literals query.now) result }
+    ensures answered { Answered (Q.literals query.now) result }
+    ensures only { Only (Q.literals query.now) result }
 {
     let mut order = Order::new();
     let mut bound = [false; VARIABLE_MAX];

@@ -52,15 +52,15 @@ loop-place-preserved g c =
       subst (λ z. Tells q z c.bind.new.bound) after (tells_more taken place c.loop-place.bound c.bind.new.bound c.loop-place.invariant.1 binds),
     )
 
-pub returns-in-Some-lowest-left : goal.returns-in-Some-lowest-left
-returns-in-Some-lowest-left g c =
+pub returns-in-Some-lowest_left : goal.returns-in-Some-lowest_left
+returns-in-Some-lowest_left g c =
     let q = g.Q.Conjunction.literals c.args.query.now in
-    let place = c.in-Some-lowest-left.place in
-    let stuck = subst (Stuck q) c.places.ensures.value c.in-default.ensures.picked in
+    let place = c.in-Some-lowest_left.place in
+    let stuck = subst (Stuck q) c.places.ensures.value c.in_default.ensures.picked in
     let left = subst (λ z. LowestLeft z (places_of c.loop-place.order) place) c.count.ensures.value
-    (subst (λ z. LowestLeft c.count.result z place) c.places-2.ensures.value c.in-Some-lowest-left.ensures.left) in
-    let refused : Refused q c.at-literal.result = rw c.at-literal.ensures.value (record { fault_is = refl; unordered = picked_unordered c.loop-place.invariant.0 stuck left }) in
-    record { answered = refused; only = only_answer q (Err c.at-literal.result) refused }
+    (subst (λ z. LowestLeft c.count.result z place) c.places-2.ensures.value c.in-Some-lowest_left.ensures.left) in
+    let refused : Refused q c.at_literal.result = rw c.at_literal.ensures.value (record { fault_is = refl; unordered = picked_unordered c.loop-place.invariant.0 stuck left }) in
+    record { answered = refused; only = only_answer q (Err c.at_literal.result) refused }
 
 pub returns-in-None : goal.returns-in-None
 returns-in-None g c =

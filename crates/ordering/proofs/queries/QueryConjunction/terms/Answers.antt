@@ -1,4 +1,4 @@
-use Rattle.std.proofs.Common.{◌≡◌, ◌<◌, ◌≤◌, length, get_or, sym, ap, ◌∙◌, subst}
+use Rattle.std.proofs.Common.{◌<◌, ◌≤◌, length, get_or, sym, ap, ◌∙◌, subst}
 use Rattle.lexing.specs.Lists.{held}
 use Rattle.catalogue.specs.Records.{source_columns}
 use Rattle.ordering.specs.Asking.{literal_past, literal_here}
