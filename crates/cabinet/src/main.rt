@@ -1,5 +1,7 @@
 // Follows one question over a cabinet's sources to its end, and prints a record of it: which notices
 // apply to pack 1007?
+#![tactic(auto)]
+
 mod texts;
 
 use anyhow::anyhow;

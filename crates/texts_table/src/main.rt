@@ -1,4 +1,6 @@
 // Reads a table of texts, and prints for each the record or the number, place and word of its fault.
+#![tactic(auto)]
+
 use anyhow::anyhow;
 use catalogue::Catalogue;
 use faults::Fault;
