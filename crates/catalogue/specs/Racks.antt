@@ -5,8 +5,8 @@ use Rattle.source.specs.Meaning.{Meaning}
 use Rattle.catalogue.specs.Plain.{PlainColumns}
 
 -- as many sources, and each has the columns and marks of its line
-abbrev pub fits : List PlainColumns → List Meaning → Bool
-fits [] [] = true
-fits [] (m ∷ ms) = false
-fits (c ∷ cs) [] = false
-fits (c ∷ cs) (m ∷ ms) = same_marks c.marks m.marks && fits cs ms
+abbrev pub describes : List PlainColumns → List Meaning → Bool
+describes [] [] = true
+describes [] (m ∷ ms) = false
+describes (c ∷ cs) [] = false
+describes (c ∷ cs) (m ∷ ms) = same_marks c.marks m.marks && describes cs ms
