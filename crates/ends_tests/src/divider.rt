@@ -10,7 +10,7 @@ fn a_divisor_of_0_is_refused(rt: HostRuntime) -> Result<(), Fail> {
         Err(fault) => {
             assert_eq!(rt; fault.refusal.number(), 46);
             Ok(())
-        }
+        },
     }
 }
 
