@@ -117,38 +117,38 @@ find_place (r ∷ rs) row asc out long = go (cases_Bool (before row r)) (find_pl
 pub one_gathered : (places : ℕ) (answer memory : List ℕ) (count : ℕ) (crowded : Bool) (memory' : List ℕ) (count' : ℕ) (crowded' : Bool) → length answer ≡ 4 → 4 * count ≤ length memory → count' ≤ places →
     ascending (answers count memory) ≡ true → Added places answer memory count crowded memory' count' crowded' →
     Gathered (record { places = places; memory = memory; count = count; crowded = crowded }) (record { places = places; memory = memory'; count = count'; crowded = crowded' }) (λ row. row ≡ answer)
-one_gathered places answer memory count crowded memory' count' crowded' four room within asc (listed_before there same_memory same_count same-crowded) = record {
+one_gathered places answer memory count crowded memory' count' crowded' four room within asc (listed_before there same_memory same_count same_crowded) = record {
   places = refl;
   more = omega arith;
   kept = λ row h. subst (λ (l : List (List ℕ)). is_in row l ≡ true) (sym rows_same) h;
   sound = λ row h. inl (subst (λ (l : List (List ℕ)). is_in row l ≡ true) rows_same h);
   complete = λ c row e. subst (λ (l : List (List ℕ)). is_in row l ≡ true) (sym rows_same) (subst (λ (r : List ℕ). is_in r (answers count memory) ≡ true) (sym e) there);
-  still = λ c. same-crowded ∙ c;
-  crowd = λ c. inl (sym same-crowded ∙ c);
+  still = λ c. same_crowded ∙ c;
+  crowd = λ c. inl (sym same_crowded ∙ c);
   behind = ap (λ (m : List ℕ). drop (4 * count') m) same_memory;
   beyond = ap (λ (m : List ℕ). drop (4 * places) m) same_memory;
 }
   where
     rows_same : answers count' memory' ≡ answers count memory
     rows_same = ap (λ (n : ℕ). answers n memory') same_count ∙ ap (answers count) same_memory
-one_gathered places answer memory count crowded memory' count' crowded' four room within asc (listed_now absent one_more members behind same-crowded) = record {
+one_gathered places answer memory count crowded memory' count' crowded' four room within asc (listed_now absent one_more members behind same_crowded) = record {
   places = refl;
   more = omega arith;
   kept = λ row h. members row ∙ or_right (same row answer) (is_in row (answers count memory)) h;
   sound = λ row h. elim (or_cases (same row answer) (is_in row (answers count memory)) (sym (members row) ∙ h)) [ inl e ↦ inr (same_eq row answer e) | inr m ↦ inl m ];
   complete = λ c row e. members row ∙ or_left (same row answer) (is_in row (answers count memory)) (eq_same row answer e);
-  still = λ c. same-crowded ∙ c;
-  crowd = λ c. inl (sym same-crowded ∙ c);
+  still = λ c. same_crowded ∙ c;
+  crowd = λ c. inl (sym same_crowded ∙ c);
   behind = behind;
   beyond = further count' places memory' memory within behind;
 }
-one_gathered places answer memory count crowded memory' count' crowded' four room within asc (no_place absent full same_memory same_count now-crowded) = record {
+one_gathered places answer memory count crowded memory' count' crowded' four room within asc (no_place absent full same_memory same_count now_crowded) = record {
   places = refl;
   more = omega arith;
   kept = λ row h. subst (λ (l : List (List ℕ)). is_in row l ≡ true) (sym rows_same) h;
   sound = λ row h. inl (subst (λ (l : List (List ℕ)). is_in row l ≡ true) rows_same h);
-  complete = λ c row e. absurd (true≢false (sym now-crowded ∙ c));
-  still = λ c. now-crowded;
+  complete = λ c row e. absurd (true≢false (sym now_crowded ∙ c));
+  still = λ c. now_crowded;
   crowd = λ c. inr one_too_many;
   behind = ap (λ (m : List ℕ). drop (4 * count') m) same_memory;
   beyond = ap (λ (m : List ℕ). drop (4 * places) m) same_memory;
