@@ -8,12 +8,14 @@ use Rattle.faults.specs.declared.refusal.Refusal.TheVariants.{CatalogueLimit, So
 use Rattle.source.specs.declared.mark.Mark.{Mark}
 use Rattle.source.specs.declared.mark.Mark.TheVariants.{Given, Free}
 use Rattle.source.specs.Marks.{inputs_of}
-use Rattle.lexing.specs.declared.bounded.Bounded.{Bounded}
+use Rattle.bounded.specs.declared.list.Bounded.{Bounded}
 use Rattle.lexing.specs.Tokens.{Token, is}
 use Rattle.lexing.specs.Names.{is_name, among, place_of, number_of, with_name, first_seen, numbers, AllAmong}
-use Rattle.lexing.specs.Lists.{held, names, crowded, Numbered}
+use Rattle.bounded.specs.Held.{held}
+use Rattle.lexing.specs.Lists.{names, crowded, Numbered}
 use Rattle.lexing.proofs.Naming.{place_some, place_none, seen_push, seen_all, all_among_0, all_among_1, numbers_push, numbers_kept, numbers_length, number_added, length_added}
-use Rattle.lexing.proofs.Holding.{roomy, length_held, pushed, held_none, name_pushed, names_length}
+use Rattle.bounded.proofs.Holding.{length_held, pushed, held_none}
+use Rattle.lexing.proofs.Holding.{roomy, name_pushed, names_length}
 use Rattle.catalogue.specs.declared.columns.Columns as rc
 use Rattle.catalogue.specs.declared.record.Catalogue.{Catalogue}
 use Rattle.catalogue.specs.declared.state.Reader.{Reader}

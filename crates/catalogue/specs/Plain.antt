@@ -2,7 +2,7 @@
 use Rattle.std.specs.Prelude.{ℕ, Bool, true, ◌&&◌, List, [], ◌∷◌, length, ◌==◌, nat_le, nat_lt}
 use Rattle.source.specs.declared.mark.Mark.{Mark}
 use Rattle.source.specs.Marks.{inputs_of}
-use Rattle.lexing.specs.Lists.{held}
+use Rattle.bounded.specs.Held.{held}
 use Rattle.catalogue.specs.declared.columns.Columns as record_columns
 
 -- the columns of a source: the numbers of their kinds, and their marks

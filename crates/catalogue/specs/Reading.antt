@@ -8,7 +8,8 @@ use Rattle.source.specs.Marks.{inputs_of}
 use Rattle.lexing.specs.declared.flaw.Flaw.{Flaw}
 use Rattle.lexing.specs.Tokens.{Token, is}
 use Rattle.lexing.specs.Names.{is_name, among, first_seen, number_of, numbers}
-use Rattle.lexing.specs.Lists.{held, names, crowded}
+use Rattle.bounded.specs.Held.{held}
+use Rattle.lexing.specs.Lists.{names, crowded}
 use Rattle.lexing.specs.Readers.{Steps, from, flaw}
 use Rattle.catalogue.specs.declared.record.Catalogue.{Catalogue}
 use Rattle.catalogue.specs.declared.state.Reader.{Reader}

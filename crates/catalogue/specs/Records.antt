@@ -1,7 +1,8 @@
 -- What the record of a catalogue holds, and which record a text's lines have.
 use Rattle.std.specs.Prelude.{◌≡◌, ℕ, List, [], map, slice_index_or}
 use Rattle.lexing.specs.Tokens.{Token}
-use Rattle.lexing.specs.Lists.{held, names}
+use Rattle.bounded.specs.Held.{held}
+use Rattle.lexing.specs.Lists.{names}
 use Rattle.lexing.specs.Names.{first_seen, numbers}
 use Rattle.catalogue.specs.declared.record.Catalogue.{Catalogue}
 use Rattle.catalogue.specs.Plain.{PlainColumns, plain, no_columns}

@@ -1,5 +1,5 @@
 // The columns of a source.
-use lexing::Bounded;
+use bounded::Bounded;
 use source::Mark;
 
 // The number of each column's kind, and each column's mark.

@@ -7,8 +7,9 @@ ghost use Rattle.lexing.specs.Tokens.{Token};
 use crate::columns::Columns;
 use crate::record::Catalogue;
 use crate::state::{Reader, Stage};
+use bounded::Bounded;
 use faults::Refusal;
-use lexing::{Bounded, Flaw, is_byte, is_name, number_in, position, to_name, token_end};
+use lexing::{Flaw, is_byte, is_name, number_in, position, to_name, token_end};
 use source::Mark;
 
 // How many sources, columns of a source, kinds, and given columns of a source there may be.

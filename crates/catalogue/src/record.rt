@@ -1,10 +1,11 @@
 // The record of a catalogue.
 ghost use Rattle.std.specs.Prelude.{◌≡◌, ◌<◌, true, map};
-ghost use Rattle.lexing.specs.Lists.{held};
+ghost use Rattle.bounded.specs.Held.{held};
 ghost use Rattle.catalogue.specs.Plain.{plain, all_shaped};
 
 use crate::columns::Columns;
-use lexing::{Bounded, Name};
+use bounded::Bounded;
+use lexing::Name;
 
 // The kinds by their names, and the sources by their names and columns. Both are numbered from 0.
 // There is a source; each has a name and columns, at least one, of kinds that there are, each with a

@@ -1,6 +1,7 @@
 // How far the text of a catalogue is read.
 use crate::columns::Columns;
-use lexing::{Bounded, Name};
+use bounded::Bounded;
+use lexing::Name;
 
 // What stands in front: whole lines; a name or a column; a space; a kind; a colon.
 #[derive(Clone, Copy)]

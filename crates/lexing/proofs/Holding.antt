@@ -1,27 +1,16 @@
 -- What bounded lists hold, and lists of names to which one is added.
-use Rattle.std.proofs.Common.{◌≡◌, ℕ, ◌<◌, ◌≤◌, Bool, true, false, cond, not, ◌&&◌, ltb, leb, ◌⊎◌, List, [], ◌∷◌, ◌++◌, map, length, Some, None, sym, refl, ap, ◌∙◌, subst, inl, inr, arith, ltb-false, le-ltb, lt-ltb, le-leb}
+use Rattle.std.proofs.Common.{◌≡◌, ℕ, ◌<◌, ◌≤◌, true, false, not, ◌&&◌, ltb, leb, ◌⊎◌, List, [], ◌∷◌, ◌++◌, map, length, Some, None, sym, refl, ap, ◌∙◌, subst, inl, inr, arith, ltb-false, le-ltb, lt-ltb, le-leb}
 use borrow.Author.Tests.{lt-leb}
 use Rattle.std.proofs.lemmas.Bool.{or_right}
 use Rattle.lexing.proofs.Bools.{which, clash}
-use Rattle.std.proofs.lemmas.List.{length-take-le, length-map, map_push}
-use Rattle.lexing.specs.declared.bounded.Bounded.{Bounded}
+use Rattle.std.proofs.lemmas.List.{length-map, map_push}
+use Rattle.bounded.specs.declared.list.Bounded.{Bounded}
 use Rattle.lexing.specs.Tokens.{Token}
 use Rattle.lexing.specs.Names.{among, place_of, number_of}
-use Rattle.lexing.specs.Lists.{held, names, crowded, Numbered}
+use Rattle.bounded.specs.Held.{held}
+use Rattle.lexing.specs.Lists.{names, crowded, Numbered}
+use Rattle.bounded.proofs.Holding.{length_held, length_most}
 use Rattle.lexing.proofs.Naming.{place_some, place_none}
-
-pub length_held : {X : Type 0} {n : ℕ} (l : Bounded X n) → length (held l) ≡ l.used
-length_held l = length-take-le l.used l.items (omega (arith, l.room, l.within))
-
-pub length_most : {X : Type 0} {n : ℕ} (l : Bounded X n) → length (held l) ≤ n
-length_most l = omega (arith, length_held l, l.within)
-
--- where there is room, a push adds
-pub pushed : {X : Type 0} {n : ℕ} (old new : Bounded X n) (x : X) (b : Bool) → b ≡ ltb old.used n → held new ≡ cond b (held old ++ x ∷ []) (held old) → length (held old) < n → held new ≡ held old ++ x ∷ []
-pushed {n = n} old new x b e f h = f ∙ rw (e ∙ lt-ltb old.used n (omega (arith, length_held old))) refl
-
-pub held_none : {X : Type 0} {n : ℕ} (l : Bounded X n) → l.used ≡ 0 → held l ≡ []
-held_none l e = rw e refl
 
 pub name_pushed : {n : ℕ} (old new : Bounded (Bounded ℕ 16) n) (w : Bounded ℕ 16) (t : Token) → held w ≡ t → held new ≡ held old ++ w ∷ [] → names new ≡ names old ++ t ∷ []
 name_pushed old new w t e f = ap (map held) f ∙ map_push held (held old) w ∙ ap (λ (x : Token). names old ++ x ∷ []) e

@@ -5,8 +5,8 @@ use Rattle.std.specs.Str.{bytes_eq}
 use Rattle.std.proofs.lemmas.Slice.Eq.{bytes_eq-Decides}
 use Rattle.std.proofs.lemmas.List.{drop_more, drop_all, get_or-map, length-map, length_push}
 use Rattle.lexing.specs.Tokens.{Token}
-use Rattle.lexing.specs.Lists.{held}
-use Rattle.lexing.specs.declared.bounded.Bounded.{Bounded}
+use Rattle.bounded.specs.Held.{held}
+use Rattle.bounded.specs.declared.list.Bounded.{Bounded}
 use Rattle.lexing.specs.Classes.{lower, name_byte, is_lower}
 use Rattle.lexing.specs.declared.class.Class.{Class}
 use Rattle.lexing.specs.declared.class.Class.TheVariants.{Lower, Upper, Digit, Blank, Punctuation, Other}

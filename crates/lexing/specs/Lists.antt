@@ -1,11 +1,9 @@
--- What a bounded list holds.
-use Rattle.std.specs.Prelude.{◌≡◌, ℕ, ◌<◌, ◌≤◌, Bool, true, false, not, ◌&&◌, ◌||◌, ◌⊎◌, List, map, length, take, Some, None, Option, nat_le, nat_lt}
-use Rattle.lexing.specs.declared.bounded.Bounded.{Bounded}
+-- Bounded lists of names.
+use Rattle.std.specs.Prelude.{◌≡◌, ℕ, ◌<◌, ◌≤◌, Bool, true, false, not, ◌&&◌, ◌||◌, ◌⊎◌, List, map, length, Some, None, Option, nat_le, nat_lt}
+use Rattle.bounded.specs.declared.list.Bounded.{Bounded}
+use Rattle.bounded.specs.Held.{held}
 use Rattle.lexing.specs.Tokens.{Token}
 use Rattle.lexing.specs.Names.{among, number_of, with_name}
-
-abbrev pub held : {X : Type 0} {n : ℕ} → Bounded X n → List X
-held l = take l.used l.items
 
 -- the names in a bounded list of names
 abbrev pub names : {n : ℕ} → Bounded (Bounded ℕ 16) n → List Token

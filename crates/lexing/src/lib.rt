@@ -1,14 +1,12 @@
 // What the texts of catalogues and queries share: bytes, tokens, names, and the word at a fault.
 #![tactic(auto)]
 
-pub mod bounded;
 pub mod class;
 pub mod flaw;
 pub mod name;
 pub mod token;
 pub mod words;
 
-pub use bounded::Bounded;
 pub use class::{Class, class_of};
 pub use flaw::{Flaw, TEXT_MAX, with_length};
 pub use name::{Alphabet, NAME_MAX, Name, all_belong, is_name, number_in, position, to_name};

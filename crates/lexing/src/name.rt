@@ -1,10 +1,11 @@
 // Names, and lists of names.
 ghost use Rattle.std.specs.Prelude.{◌≡◌, ◌<◌, ◌≤◌, true, map, length, MatchOption};
 ghost use Rattle.lexing.specs.Names.{all, belongs as inside, is_name, place_of};
-ghost use Rattle.lexing.specs.Lists.{held, names as named, Numbered};
+ghost use Rattle.bounded.specs.Held.{held};
+ghost use Rattle.lexing.specs.Lists.{names as named, Numbered};
 
-use crate::bounded::Bounded;
 use crate::class::{Class, class_of};
+use bounded::Bounded;
 
 // How many bytes a name or a variable may have.
 pub const NAME_MAX: usize = 16;

@@ -1,6 +1,6 @@
 -- The literals of a query, each with the marks of its source.
 use Rattle.std.specs.Prelude.{List, map, slice_index_or}
-use Rattle.lexing.specs.Lists.{held}
+use Rattle.bounded.specs.Held.{held}
 use Rattle.catalogue.specs.Plain.{PlainColumns, no_columns}
 use Rattle.catalogue.specs.Records.{source_columns}
 use Rattle.query.specs.declared.term.Literal as record_literal

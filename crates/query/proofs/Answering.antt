@@ -5,15 +5,17 @@ use Rattle.std.proofs.lemmas.List.{length-take-le}
 use Rattle.faults.specs.declared.refusal.Refusal.TheVariants.{QueryLimit, HeadVariableMissing}
 use Rattle.lexing.specs.Tokens.{Token}
 use Rattle.lexing.specs.Names.{among, number_of, numbers, AllAmong}
-use Rattle.lexing.specs.Lists.{held, names}
+use Rattle.bounded.specs.Held.{held}
+use Rattle.lexing.specs.Lists.{names}
 use Rattle.lexing.specs.Grammars.{Accepted}
 use Rattle.lexing.proofs.Bools.{which, clash}
 use Rattle.lexing.proofs.Naming.{same_is, numbers_at, numbers_length}
-use Rattle.lexing.proofs.Holding.{length_held, names_length}
+use Rattle.bounded.proofs.Holding.{length_held}
+use Rattle.lexing.proofs.Holding.{names_length}
 use Rattle.lexing.proofs.Course.{accepted_so, over_so}
 use Rattle.catalogue.specs.declared.record.Catalogue.{Catalogue}
 use Rattle.catalogue.specs.Records.{Described, described}
-use Rattle.lexing.specs.declared.bounded.Bounded.{Bounded}
+use Rattle.bounded.specs.declared.list.Bounded.{Bounded}
 use Rattle.query.specs.declared.term.Literal as rl
 use Rattle.query.specs.declared.record.Query.{Query}
 use Rattle.query.specs.declared.state.Reader.{Reader}

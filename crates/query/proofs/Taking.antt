@@ -6,13 +6,15 @@ use Rattle.std.proofs.lemmas.Bool.{or_right}
 use Rattle.std.proofs.lemmas.List.{map_push, length-map, length_push}
 use Rattle.faults.specs.declared.refusal.Refusal.{Refusal}
 use Rattle.faults.specs.declared.refusal.Refusal.TheVariants.{UnfitLiteral, QueryLimit, VariableInTwoKinds, ConstantTooLarge}
-use Rattle.lexing.specs.declared.bounded.Bounded.{Bounded}
+use Rattle.bounded.specs.declared.list.Bounded.{Bounded}
 use Rattle.lexing.specs.Tokens.{Token, is}
 use Rattle.lexing.specs.Names.{is_name, among, place_of, number_of, with_name, numbers}
-use Rattle.lexing.specs.Lists.{held, names, crowded, Numbered}
+use Rattle.bounded.specs.Held.{held}
+use Rattle.lexing.specs.Lists.{names, crowded, Numbered}
 use Rattle.lexing.proofs.Bools.{which, clash, is_it}
 use Rattle.lexing.proofs.Naming.{place_some, place_none, numbers_push, numbers_kept, numbers_length, number_added, all_among_kept, all_among_push, among_added, length_added}
-use Rattle.lexing.proofs.Holding.{crowds, roomy, length_held, pushed, names_length, length_most}
+use Rattle.bounded.proofs.Holding.{length_held, pushed, length_most}
+use Rattle.lexing.proofs.Holding.{crowds, roomy, names_length}
 use Rattle.catalogue.specs.declared.record.Catalogue.{Catalogue}
 use Rattle.catalogue.specs.declared.columns.Columns as rc
 use Rattle.catalogue.specs.Records.{Described, described, columns_of}

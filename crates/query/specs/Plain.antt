@@ -1,6 +1,6 @@
 -- A query as plain lists, for whoever speaks of queries.
 use Rattle.std.specs.Prelude.{ℕ, Bool, true, false, ◌&&◌, ◌||◌, List, [], ◌∷◌, map, length, ◌==◌, nat_lt, slice_index_or}
-use Rattle.lexing.specs.Lists.{held}
+use Rattle.bounded.specs.Held.{held}
 use Rattle.catalogue.specs.Plain.{PlainColumns, no_columns}
 use Rattle.query.specs.declared.term.Term as record_term
 use Rattle.query.specs.declared.term.Term.TheVariants.{Constant, Variable}

@@ -6,7 +6,8 @@ use Rattle.faults.specs.declared.refusal.Refusal.TheVariants.{QueryForm, UnfitLi
 use Rattle.lexing.specs.declared.flaw.Flaw.{Flaw}
 use Rattle.lexing.specs.Tokens.{Token, is}
 use Rattle.lexing.specs.Names.{is_name, among, number_of, numbers, AllAmong}
-use Rattle.lexing.specs.Lists.{held, names, crowded}
+use Rattle.bounded.specs.Held.{held}
+use Rattle.lexing.specs.Lists.{names, crowded}
 use Rattle.lexing.specs.Readers.{Steps, from}
 use Rattle.catalogue.specs.Records.{Described, described}
 use Rattle.query.specs.declared.state.Reader.{Reader}

@@ -2,7 +2,8 @@
 use Rattle.std.specs.Prelude.{◌≡◌, cond, List, [], ◌∷◌, map}
 use Rattle.lexing.specs.Tokens.{Token}
 use Rattle.lexing.specs.Names.{number_of, numbers}
-use Rattle.lexing.specs.Lists.{held, names}
+use Rattle.bounded.specs.Held.{held}
+use Rattle.lexing.specs.Lists.{names}
 use Rattle.catalogue.specs.declared.record.Catalogue.{Catalogue}
 use Rattle.catalogue.specs.Records.{Described, described}
 use Rattle.query.specs.declared.record.Query.{Query}

@@ -1,6 +1,6 @@
 // What is left to do behind the last token of a query.
 ghost use Rattle.std.specs.Prelude.{◌≡◌, ◌<◌, length, slice_index};
-ghost use Rattle.lexing.specs.Lists.{held};
+ghost use Rattle.bounded.specs.Held.{held};
 ghost use Rattle.query.specs.Ends.{FirstMissing, places, tokens_of};
 
 use crate::record::Query;

@@ -10,9 +10,10 @@ use crate::kinds::Kinds;
 use crate::state::{Reader, Stage};
 use crate::term::{Literal, Term};
 use crate::token::{constant_of, is_arrow, is_constant, is_variable};
+use bounded::Bounded;
 use catalogue::Catalogue;
 use faults::Refusal;
-use lexing::{Bounded, Flaw, NAME_MAX, is_blank, is_byte, is_name, number_in, token_end};
+use lexing::{Flaw, NAME_MAX, is_blank, is_byte, is_name, number_in, token_end};
 
 // How many variables of the head, literals and variables there may be.
 const HEAD_MAX: usize = 4;

@@ -1,12 +1,13 @@
 // The record of a query.
 ghost use Rattle.std.specs.Prelude.{◌≡◌, true, map};
-ghost use Rattle.lexing.specs.Lists.{held};
+ghost use Rattle.bounded.specs.Held.{held};
 ghost use Rattle.catalogue.specs.Records.{source_columns};
 ghost use Rattle.query.specs.Plain.{plain_literal, sound as fits_together};
 
 use crate::term::Literal;
+use bounded::Bounded;
 use catalogue::Catalogue;
-use lexing::{Bounded, Name};
+use lexing::Name;
 
 // A query over the catalogue that it keeps: the names of its variables, numbered as they first
 // appear, the variables of its head, and its literals. Its literals fit the catalogue's sources, and

@@ -1,8 +1,9 @@
 // How far the text of a query is read.
 use crate::kinds::Kinds;
 use crate::term::{Literal, Term};
+use bounded::Bounded;
 use catalogue::Catalogue;
-use lexing::{Bounded, Name};
+use lexing::Name;
 
 // What is due: a name; a parenthesis; an item; a comma or the other parenthesis; what stands behind
 // an atom; nothing.

@@ -1,5 +1,5 @@
 // The terms and literals of a query.
-use lexing::Bounded;
+use bounded::Bounded;
 
 // A value, or the number of a variable.
 #[derive(Clone, Copy, PartialEq, Eq, Debug)]

@@ -1,6 +1,6 @@
 // Queries from their texts, and what they hold.
 ghost use Rattle.std.specs.Prelude.{◌≡◌, [], map, length, slice_index_or};
-ghost use Rattle.lexing.specs.Lists.{held};
+ghost use Rattle.bounded.specs.Held.{held};
 ghost use Rattle.query.specs.Plain.{plain_literal, plain_term};
 ghost use Rattle.query.specs.Records.{plain_query, variable_names};
 ghost use Rattle.query.specs.Texts.{Read, OneAnswer};

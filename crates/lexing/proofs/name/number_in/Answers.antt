@@ -1,5 +1,6 @@
 use Rattle.std.proofs.Common.{◌<◌, sym, arith, rules, ltb-true}
-use Rattle.lexing.proofs.Holding.{length_held, number_found, number_full, number_crowded, number_new, found_below}
+use Rattle.bounded.proofs.Holding.{length_held}
+use Rattle.lexing.proofs.Holding.{number_found, number_full, number_crowded, number_new, found_below}
 use Rattle.lexing.proofs.name.number_in.Goals as goal
 
 pub overflow_cast-result : goal.overflow_cast-result

@@ -1,7 +1,7 @@
 use Rattle.std.proofs.Common.{◌≤◌, map, length, sym, ◌∙◌, arith}
 use Rattle.std.proofs.lemmas.Slice.Eq.{slice_eq-Decides}
 use Rattle.std.proofs.lemmas.List.{length-map}
-use Rattle.lexing.specs.Lists.{held}
+use Rattle.bounded.specs.Held.{held}
 use Rattle.lexing.proofs.Naming.{same_decided, shifted_none, read_hit, read_miss, place_done}
 use Rattle.lexing.proofs.name.position.Goals as goal
 use Rattle.std.proofs.lemmas.Bool.Decides.{Decides-eqb}

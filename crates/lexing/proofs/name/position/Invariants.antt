@@ -1,5 +1,5 @@
 use Rattle.std.proofs.Common.{◌≡◌, map, drop}
-use Rattle.lexing.specs.Lists.{held}
+use Rattle.bounded.specs.Held.{held}
 use Rattle.lexing.specs.Names.{place_of}
 use Rattle.lexing.proofs.Naming.{shifted}
 use Rattle.lexing.proofs.name.position.Given as goal

@@ -1,5 +1,5 @@
 use Rattle.std.proofs.Common.{◌≡◌, take}
-use Rattle.lexing.specs.Lists.{held}
+use Rattle.bounded.specs.Held.{held}
 use Rattle.lexing.proofs.name.to_name.Given as goal
 
 abbrev pub invariant-loop-byte : goal.invariant-loop-byte

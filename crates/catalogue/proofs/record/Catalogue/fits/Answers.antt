@@ -1,7 +1,8 @@
 use Rattle.std.proofs.Common.{◌≡◌, ◌≤◌, length, sym, ◌∙◌, arith}
 use Rattle.std.proofs.lemmas.List.{length-map}
-use Rattle.lexing.specs.Lists.{held}
-use Rattle.lexing.proofs.Holding.{length_held, length_most, names_length}
+use Rattle.bounded.specs.Held.{held}
+use Rattle.bounded.proofs.Holding.{length_held, length_most}
+use Rattle.lexing.proofs.Holding.{names_length}
 use Rattle.catalogue.specs.declared.record.Catalogue.{Catalogue}
 use Rattle.catalogue.specs.Plain.{plain}
 use Rattle.catalogue.specs.Records.{source_columns, source_names}

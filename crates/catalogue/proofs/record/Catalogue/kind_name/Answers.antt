@@ -1,5 +1,5 @@
 use Rattle.std.proofs.Common.{[], ◌∙◌}
-use Rattle.lexing.specs.Lists.{held}
+use Rattle.bounded.specs.Held.{held}
 use Rattle.catalogue.proofs.Holdings.{entry_at, no_entry}
 use Rattle.catalogue.proofs.record.Catalogue.kind_name.Goals as goal
 

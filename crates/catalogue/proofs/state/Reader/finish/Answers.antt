@@ -1,5 +1,5 @@
 use Rattle.std.proofs.Common.{◌<◌, refl, arith}
-use Rattle.lexing.proofs.Holding.{length_held}
+use Rattle.bounded.proofs.Holding.{length_held}
 use Rattle.catalogue.proofs.Taking.{ended, all_paired, all_shapes}
 use Rattle.catalogue.proofs.state.Reader.finish.Goals as goal
 

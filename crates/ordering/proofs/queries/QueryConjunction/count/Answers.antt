@@ -1,6 +1,6 @@
 use Rattle.std.proofs.Common.{length, sym, ap, ◌∙◌}
 use lib.ListN.{length-map}
-use Rattle.lexing.specs.Lists.{held}
+use Rattle.bounded.specs.Held.{held}
 use Rattle.catalogue.specs.Records.{source_columns}
 use Rattle.ordering.specs.Asked.{asked}
 use Rattle.ordering.proofs.queries.QueryConjunction.count.Goals as goal

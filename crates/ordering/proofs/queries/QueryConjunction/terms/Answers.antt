@@ -1,5 +1,5 @@
 use Rattle.std.proofs.Common.{◌<◌, ◌≤◌, length, get_or, sym, ap, ◌∙◌, subst}
-use Rattle.lexing.specs.Lists.{held}
+use Rattle.bounded.specs.Held.{held}
 use Rattle.catalogue.specs.Records.{source_columns}
 use Rattle.ordering.specs.Asking.{literal_past, literal_here}
 use Rattle.ordering.proofs.queries.QueryConjunction.terms.Goals as goal

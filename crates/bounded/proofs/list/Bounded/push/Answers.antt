@@ -1,6 +1,6 @@
 use Rattle.std.proofs.Common.{◌<◌, length, sym, refl, arith, lt-ltb}
 use Rattle.std.proofs.lemmas.List.{take_more_set}
-use Rattle.lexing.proofs.bounded.Bounded.push.Goals as goal
+use Rattle.bounded.proofs.list.Bounded.push.Goals as goal
 
 pub returns-then-self : goal.returns-then-self
 returns-then-self g c =
