@@ -2,6 +2,8 @@ ghost use Rattle.std.specs.Prelude.{◌≡◌};
 ghost use Rattle.faults.specs.Faults.{bare, placed, layered, at_literal, at_source, raised, first_source, next_source, from_literal};
 
 use crate::refusal::Refusal;
+use std::error::Error;
+use std::fmt;
 
 // What stands in a fault's byte fields where nothing is known.
 pub const UNKNOWN: u8 = 255;
@@ -13,7 +15,8 @@ pub const LAYER_MAX: u8 = 254;
 pub const UNKNOWN_DETAIL: u16 = 65535;
 
 // A refusal with where it arose: the layer counted from the outermost, the number of the source in
-// its rack, the place of the literal in its query, and the byte place in a text or a file.
+// its rack, the place of the literal in its query, and the byte place in a text or a file. The numbers for
+// what is unknown are part of the record's format, so its fields are no options.
 #[derive(Clone, Copy, PartialEq, Eq, Debug)]
 pub struct Fault {
     pub refusal: Refusal,
@@ -35,11 +38,7 @@ impl Fault {
     pub fn placed(refusal: Refusal, place: usize) -> Fault
         ensures value { result ≡ placed refusal place }
     {
-        let detail = if place < 65535 {
-            place as u16
-        } else {
-            UNKNOWN_DETAIL
-        };
+        let detail = u16::try_from(place).unwrap_or(UNKNOWN_DETAIL);
         Fault {
             detail,
             ..Fault::bare(refusal)
@@ -109,3 +108,38 @@ impl Fault {
         Fault { literal, ..self }
     }
 }
+
+// A number of a fault, or `-` where it is not known.
+#[derive(Clone, Copy)]
+struct Shown(Option<u16>);
+
+impl fmt::Display for Shown {
+    fn fmt<W: fmt::Write>(&self, f: &mut fmt::Formatter<W>) -> fmt::Result {
+        match self.0 {
+            Some(number) => write!(f, "{number}"),
+            None => f.write_str("-"),
+        }
+    }
+}
+
+// What a byte field of a fault says.
+fn byte(field: u8) -> Shown {
+    Shown((field != UNKNOWN).then_some(u16::from(field)))
+}
+
+// As it stands in a record: the refusal, and each number behind its name.
+impl fmt::Display for Fault {
+    fn fmt<W: fmt::Write>(&self, f: &mut fmt::Formatter<W>) -> fmt::Result {
+        write!(
+            f,
+            "{} layer {} source {} literal {} detail {}",
+            self.refusal,
+            byte(self.layer),
+            byte(self.source),
+            byte(self.literal),
+            Shown((self.detail != UNKNOWN_DETAIL).then_some(self.detail))
+        )
+    }
+}
+
+impl Error for Fault {}

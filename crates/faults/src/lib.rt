@@ -3,6 +3,8 @@
 
 pub mod fault;
 pub mod refusal;
+#[cfg(test)]
+mod tests;
 
 pub use fault::Fault;
 pub use refusal::Refusal;

@@ -1,59 +1,50 @@
 -- Counting and comparing the given columns, one column after another.
-use Rattle.std.proofs.Common.{◌≡◌, ℕ, ◌+◌, ◌<◌, ◌≤◌, Bool, true, false, eqb, ◌⊎◌, List, [], ◌∷◌, length, get_or, drop, Decides, sym, refl, ap, ◌∙◌, subst, inl, inr, arith}
-use Rattle.std.proofs.lemmas.Bool.{eq-eqb, ne_eqb, cases_lt, and_parts, and_from, false≢true}
-use Rattle.std.proofs.lemmas.List.{drop_more, drop_all}
+use Rattle.std.proofs.Common.{◌≡◌, ℕ, suc, true, false, ◌⊎◌, List, [], ◌∷◌, length, filter, Decides, sym, refl, ap, subst, inl, inr, arith, ◌==◌}
+use Rattle.std.proofs.lemmas.Bool.{and_parts, eq-eqb, ne_eqb, and_from, false≢true}
 use Rattle.source.specs.declared.mark.Mark.{Mark}
 use Rattle.source.specs.declared.mark.Mark.TheVariants.{Given, Free}
 use Rattle.source.specs.Rows.{same}
-use Rattle.source.specs.Marks.{inputs_of, picked, same_mark, same_marks}
+use Rattle.source.specs.Marks.{is_given, inputs_of, picked, same_mark, same_marks}
 
-module _ (marks : List Mark) (i : ℕ) (inside : i < length marks) where
-  drop_mark : (m : Mark) → get_or marks i Given ≡ m → drop i marks ≡ m ∷ drop (i + 1) marks
-  drop_mark m e = drop_more marks i Given inside ∙ ap (λ z. z ∷ drop (i + 1) marks) e
+-- the given marks are as many as the inputs
+pub given_counted : (ms : List Mark) → length (filter is_given ms) ≡ inputs_of ms
+given_counted [] = refl
+given_counted (Given ∷ ms) = ap suc (given_counted ms)
+given_counted (Free ∷ ms) = given_counted ms
 
-  pub count_given : (n t : ℕ) → get_or marks i Given ≡ Given → n + inputs_of (drop i marks) ≡ t → n + 1 + inputs_of (drop (i + 1) marks) ≡ t
-  count_given n t e h = omega (arith, ap inputs_of (drop_mark Given e))
+-- what a row holds in the given columns, one column after another
+module _ {ms ms' : List Mark} {vs vs' : List ℕ} {v : ℕ} where
+  pub picked_given : (m : Mark) → ms ≡ m ∷ ms' → vs ≡ v ∷ vs' → true ≡ is_given m → picked ms vs ≡ v ∷ picked ms' vs'
+  picked_given Given e f g = rw (e, f) refl
+  picked_given Free e f g = absurd (false≢true (sym g))
 
-  pub count_free : (n t : ℕ) → get_or marks i Given ≡ Free → n + inputs_of (drop i marks) ≡ t → n + inputs_of (drop (i + 1) marks) ≡ t
-  count_free n t e h = omega (arith, ap inputs_of (drop_mark Free e))
+  pub picked_free : (m : Mark) → ms ≡ m ∷ ms' → vs ≡ v ∷ vs' → false ≡ is_given m → picked ms vs ≡ picked ms' vs'
+  picked_free Given e f g = absurd (false≢true g)
+  picked_free Free e f g = rw (e, f) refl
 
-pub count_none : (marks : List Mark) (i : ℕ) → length marks ≤ i → inputs_of (drop i marks) ≡ 0
-count_none marks i h = ap inputs_of (drop_all i marks h)
+picked_none : (ms : List Mark) (vs : List ℕ) → (length ms ≡ 0) ⊎ (length vs ≡ 0) → picked ms vs ≡ []
+picked_none [] vs h = refl
+picked_none (Given ∷ ms) [] h = refl
+picked_none (Free ∷ ms) [] h = refl
+picked_none (m ∷ ms) (v ∷ vs) (inl e) = absurd (omega (arith, e))
+picked_none (m ∷ ms) (v ∷ vs) (inr e) = absurd (omega (arith, e))
 
--- whether the columns from i on hold the inputs from u on
-abbrev pub rest_holds : List Mark → List ℕ → List ℕ → ℕ → ℕ → Bool
-rest_holds marks inputs row i u = same (picked (drop i marks) (drop i row)) (drop u inputs)
+-- a list that begins with a value is equal to one that begins with the same, if their rests are
+module _ {qs ps : List ℕ} {v : ℕ} (e : qs ≡ v ∷ ps) where
+  pub same_short : (xs : List ℕ) → length xs ≡ 0 → same qs xs ≡ false
+  same_short [] h = rw e refl
+  same_short (x ∷ xs) h = absurd (omega (arith, h))
 
-module _ (marks : List Mark) (inputs row : List ℕ) (i u : ℕ) (inside : i < length marks) (within : i < length row) where
-  held : (m : Mark) → get_or marks i Given ≡ m → rest_holds marks inputs row i u ≡ same (picked (m ∷ drop (i + 1) marks) (get_or row i 0 ∷ drop (i + 1) row)) (drop u inputs)
-  held m e = rw (drop_mark marks i inside m e, drop_more row i 0 within) refl
+  pub same_other : {xs rest : List ℕ} {x : ℕ} → xs ≡ x ∷ rest → (x ≡ v → ⊥) → same qs xs ≡ false
+  same_other {x = x} f n = rw (e, f, ne_eqb v x (λ h. n (sym h))) refl
 
-  pub holds_more : get_or marks i Given ≡ Given → u < length inputs → get_or inputs u 0 ≡ get_or row i 0 → rest_holds marks inputs row (i + 1) (u + 1) ≡ rest_holds marks inputs row i u
-  holds_more e l v = sym (held Given e ∙ rw (drop_more inputs u 0 l, eq-eqb (get_or row i 0) (get_or inputs u 0) (sym v)) refl)
+  pub same_more : {xs rest : List ℕ} {x : ℕ} → xs ≡ x ∷ rest → x ≡ v → same qs xs ≡ same ps rest
+  same_more {x = x} f h = rw (e, f, eq-eqb v x (sym h)) refl
 
-  pub holds_not : get_or marks i Given ≡ Given → u < length inputs → (get_or inputs u 0 ≡ get_or row i 0 → ⊥) → rest_holds marks inputs row i u ≡ false
-  holds_not e l v = held Given e ∙ (let n : get_or row i 0 ≡ get_or inputs u 0 → ⊥ = λ z. v (sym z) in rw (drop_more inputs u 0 l, ne_eqb (get_or row i 0) (get_or inputs u 0) n) refl)
-
-  pub holds_too_few : get_or marks i Given ≡ Given → length inputs ≤ u → rest_holds marks inputs row i u ≡ false
-  holds_too_few e l = held Given e ∙ rw (drop_all u inputs l) refl
-
-  pub holds_free : get_or marks i Given ≡ Free → rest_holds marks inputs row (i + 1) u ≡ rest_holds marks inputs row i u
-  holds_free e = sym (held Free e)
-
-none_picked : (ms : List Mark) → picked ms [] ≡ []
-none_picked [] = refl
-none_picked (Given ∷ ms) = refl
-none_picked (Free ∷ ms) = refl
-
-all_used : (inputs : List ℕ) (u : ℕ) → u ≤ length inputs → same [] (drop u inputs) ≡ eqb u (length inputs)
-all_used inputs u h = elim (cases_lt u (length inputs)) [
-  | inl l ↦ (let n : u ≡ length inputs → ⊥ = λ e. omega arith in rw (drop_more inputs u 0 l, ne_eqb u (length inputs) n) refl)
-  | inr l ↦ (let e : u ≡ length inputs = omega arith in rw (drop_all u inputs l, eq-eqb u (length inputs) e) refl)
-]
-
-pub holds_end : (marks : List Mark) (inputs row : List ℕ) (i u : ℕ) → (length marks ≤ i) ⊎ (length row ≤ i) → u ≤ length inputs → rest_holds marks inputs row i u ≡ eqb u (length inputs)
-holds_end marks inputs row i u (inl h) l = rw (drop_all i marks h) (all_used inputs u l)
-holds_end marks inputs row i u (inr h) l = rw (drop_all i row h, none_picked (drop i marks)) (all_used inputs u l)
+-- where there is no column or no value left, no input may be left
+pub same_ended : (ms : List Mark) (vs xs : List ℕ) → (length ms ≡ 0) ⊎ (length vs ≡ 0) → same (picked ms vs) xs ≡ (length xs == 0)
+same_ended ms vs [] h = rw (picked_none ms vs h) refl
+same_ended ms vs (x ∷ xs) h = rw (picked_none ms vs h, ne_eqb (length (x ∷ xs)) 0 (λ e. omega (arith, e))) refl
 
 same_mark_eq : (m n : Mark) → same_mark m n ≡ true → m ≡ n
 same_mark_eq Given Given e = refl

@@ -4,6 +4,11 @@ use Rattle.source.specs.declared.mark.Mark.{Mark}
 use Rattle.source.specs.declared.mark.Mark.TheVariants.{Given, Free}
 use Rattle.source.specs.Rows.{same, all_values}
 
+-- a column of this mark must be given
+abbrev pub is_given : Mark → Bool
+is_given Given = true
+is_given Free = false
+
 -- the two marks are equal
 abbrev pub same_mark : Mark → Mark → Bool
 same_mark Given Given = true

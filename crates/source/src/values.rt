@@ -29,37 +29,24 @@ pub fn same_marks(marks: &[Mark], others: &[Mark]) -> bool
 pub fn count_inputs(marks: &[Mark]) -> usize
     ensures value { result ≡ inputs_of marks.now }
 {
-    let mut count = 0;
-    for mark in marks {
-        match mark {
-            Mark::Given => {
-                count += 1;
-            }
-            Mark::Free => {}
-        }
-    }
-    count
+    marks.iter().filter(|mark| mark.is_given()).count()
 }
 
 // Whether a row holds the inputs in its given columns.
 pub fn holds_inputs(marks: &[Mark], inputs: &[u32], row: &[u32]) -> bool
     ensures value { result ≡ matches marks.now inputs.now row.now }
 {
-    let mut used = 0;
-    for i in 0..marks.len() {
-        if i >= row.len() {
-            break;
-        }
-        let mark = marks[i];
-        match mark {
-            Mark::Given => {
-                if used >= inputs.len() || inputs[used] != row[i] {
-                    return false;
-                }
-                used += 1;
+    let mut left = inputs;
+    for (mark, value) in marks.iter().zip(row) {
+        if mark.is_given() {
+            let Some((input, rest)) = left.split_first() else {
+                return false;
+            };
+            if input != value {
+                return false;
             }
-            Mark::Free => {}
+            left = rest;
         }
     }
-    used == inputs.len()
+    left.is_empty()
 }

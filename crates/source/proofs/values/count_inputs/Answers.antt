@@ -1,14 +1,10 @@
-use Rattle.std.proofs.Common.{arith}
-use Rattle.source.proofs.Columns.{count_given, count_free, count_none}
+use Rattle.std.proofs.Common.{rules, ◌≡◌, sym, ◌∙◌, count_by}
+use Rattle.std.proofs.lemmas.List.Sums.{length-filter}
+use Rattle.source.specs.Marks.{is_given}
+use Rattle.source.proofs.Columns.{given_counted}
 use Rattle.source.proofs.values.count_inputs.Goals as goal
 
-pub loop-mark-preserved : goal.loop-mark-preserved
-loop-mark-preserved c =
-    let inside = c.loop-mark-test.true in
-    elim c.match-mark.branch [
-      | goal.in-Given w ↦ (omega (arith, w.count-is, count_given c.args.marks.now c.loop-mark.mark-index inside _ _ w.in-Given.is c.loop-mark.invariant.0), omega (arith, w.count-is))
-      | goal.in-Free w ↦ (omega (arith, w.count-is, count_free c.args.marks.now c.loop-mark.mark-index inside _ _ w.in-Free.is c.loop-mark.invariant.0), omega (arith, w.count-is))
-    ]
-
 pub returns : goal.returns
-returns c = record { value = omega (arith, c.loop-mark.invariant.0, count_none c.args.marks.now c.loop-mark.mark-index c.loop-mark-test.false) }
+returns c =
+    let counted : c.count.result ≡ count_by is_given c.args.marks.now = search rules in
+    record { value = counted ∙ (sym (length-filter is_given c.args.marks.now) ∙ given_counted c.args.marks.now) }

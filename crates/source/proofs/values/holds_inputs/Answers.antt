@@ -1,22 +1,28 @@
-use Rattle.std.proofs.Common.{sym, ap, ◌∙◌, inl, inr, arith}
-use Rattle.source.proofs.Columns.{rest_holds, holds_more, holds_not, holds_too_few, holds_free, holds_end}
-use Rattle.source.proofs.values.holds_inputs.Goals.{then-used-inputs-via-then-used-inputs, then-used-inputs-via-else-used-inputs+then-inputs-used, else-loop-i-test, then-loop-i-test+then-i-row}
+use Rattle.std.proofs.Common.{sym, ap, ◌∙◌, inl, inr}
+use Rattle.source.specs.Rows.{same}
+use Rattle.source.proofs.Columns.{picked_given, picked_free, same_short, same_other, same_more, same_ended}
 use Rattle.source.proofs.values.holds_inputs.Goals as goal
 
-pub returns-then-used-inputs : goal.returns-then-used-inputs
-returns-then-used-inputs c = elim c.then-used-inputs.branch [
-  | then-used-inputs-via-then-used-inputs w ↦ record { value = sym (holds_too_few c.args.marks.now c.args.inputs.now c.args.row.now c.loop-i.i c.loop-i.used c.loop-i-test.true c.if-i-row.false c.in-Given.is w.if-used-inputs.true) ∙ c.loop-i.invariant.0 }
-  | then-used-inputs-via-else-used-inputs+then-inputs-used w ↦ record { value = sym (holds_not c.args.marks.now c.args.inputs.now c.args.row.now c.loop-i.i c.loop-i.used c.loop-i-test.true c.if-i-row.false c.in-Given.is w.if-used-inputs.false w.if-inputs-used.true) ∙ c.loop-i.invariant.0 }
-]
+pub returns-in_default : goal.returns-in_default
+returns-in_default c =
+    let h = c.in-Some.ensures.steps in
+    record { value = sym (same_short (picked_given _ h.0 h.1 c.if-is_given.ensures.value) _ c.in_default.ensures.cases) ∙ c.loop-mark.invariant }
 
-pub loop-i-preserved : goal.loop-i-preserved
-loop-i-preserved c = elim c.match-mark.branch [
-  | goal.in-Given+else-used-inputs+else-inputs-used w ↦ (ap (rest_holds c.args.marks.now c.args.inputs.now c.args.row.now _) w.used-is ∙ holds_more c.args.marks.now c.args.inputs.now c.args.row.now c.loop-i.i c.loop-i.used c.loop-i-test.true c.if-i-row.false w.in-Given.is w.if-used-inputs.false w.if-inputs-used.false ∙ c.loop-i.invariant.0, omega (arith, w.used-is, w.if-used-inputs.false))
-  | goal.in-Free w ↦ (ap (rest_holds c.args.marks.now c.args.inputs.now c.args.row.now _) w.used-is ∙ holds_free c.args.marks.now c.args.inputs.now c.args.row.now c.loop-i.i c.loop-i.used c.loop-i-test.true c.if-i-row.false w.in-Free.is ∙ c.loop-i.invariant.0, omega (arith, w.used-is))
-]
+pub returns-then-input-value : goal.returns-then-input-value
+returns-then-input-value c =
+    let h = c.in-Some.ensures.steps in
+    record { value = sym (same_other (picked_given _ h.0 h.1 c.if-is_given.ensures.value) c.in-Some-split_first.ensures.cases.0 c.if-input-value.true) ∙ c.loop-mark.invariant }
+
+pub loop-mark-preserved-then-is_given : goal.loop-mark-preserved-then-is_given
+loop-mark-preserved-then-is_given c =
+    let h = c.in-Some.ensures.steps in
+    sym (same_more (picked_given _ h.0 h.1 c.if-is_given.ensures.value) c.in-Some-split_first.ensures.cases.0 c.if-input-value.false) ∙ c.loop-mark.invariant
+
+pub loop-mark-preserved : goal.loop-mark-preserved
+loop-mark-preserved c =
+    let h = c.in-Some.ensures.steps in
+    ap (λ q. same q c.loop-mark.left.now) (sym (picked_free _ h.0 h.1 c.if-is_given.ensures.value)) ∙ c.loop-mark.invariant
 
 pub returns : goal.returns
-returns c = elim c.loop-i-test.branch [
-  | else-loop-i-test w ↦ record { value = sym (holds_end c.args.marks.now c.args.inputs.now c.args.row.now c.loop-i.i c.loop-i.used (inl w.loop-i-test.false) c.loop-i.invariant.1) ∙ c.loop-i.invariant.0 }
-  | then-loop-i-test+then-i-row w ↦ record { value = sym (holds_end c.args.marks.now c.args.inputs.now c.args.row.now c.loop-i.i c.loop-i.used (inr w.if-i-row.true) c.loop-i.invariant.1) ∙ c.loop-i.invariant.0 }
-]
+returns c =
+    record { value = c.is_empty.ensures ∙ (sym (same_ended _ _ _ (elim c.in-None.ensures.steps [ inl m ↦ inl m.1.0 | inr v ↦ inr v.1.0 ])) ∙ c.loop-mark.invariant) }
