@@ -8,7 +8,8 @@ use anyhow::anyhow;
 use ends::{Divider, Register};
 use faults::Fault;
 use layers::{Memo, Quota};
-use source::{ANSWER_ROOM, Mark, Source};
+use source::{ANSWER_ROOM, Row, Source};
+use std::collections::BTreeSet;
 use std::fs;
 use std::rt::Files;
 use texts::show_order;
@@ -19,36 +20,22 @@ const PACK: u32 = 1007;
 // What the numbers of modules are divided by to give their batches.
 const MODULES_IN_BATCH: u32 = 1000;
 
-// The letter of a mark.
-fn letter(mark: Mark) -> char {
-    match mark {
-        Mark::Given => 'b',
-        Mark::Free => 'f',
-    }
-}
-
 // The refusal as an error of the program.
 fn refused(what: &str, fault: Fault) -> anyhow::Error {
-    let number = fault.refusal.number();
-    anyhow!("{what}: refusal {number}")
+    anyhow!("{what}: {}", fault.refusal)
 }
 
 // A register filled from a file, with a line of the record.
 fn open(rt: &(impl Files + Print + AllocGlobal), path: &str) -> anyhow::Result<Register> {
     let bytes = fs::read(rt, path)?;
     let mut register = Register::new();
-    match register.open(&bytes) {
-        Ok(_) => {
-            print!(rt; "register {path}:")?;
-            for mark in register.marks() {
-                let letter = letter(*mark);
-                print!(rt; " {letter}")?;
-            }
-            println!(rt; "")?;
-            Ok(register)
-        }
-        Err(fault) => Err(refused(path, fault)),
+    register.open(&bytes).map_err(|fault| refused(path, fault))?;
+    print!(rt; "register {path}:")?;
+    for mark in register.marks() {
+        print!(rt; " {mark}")?;
     }
+    println!(rt; "")?;
+    Ok(register)
 }
 
 // Calls a source with one input, prints the call and its rows, and collects what stands in one of the
@@ -62,54 +49,39 @@ fn follow<S: Source>(
 ) -> anyhow::Result<Vec<u32>> {
     let mut memory = [0; ANSWER_ROOM];
     println!(rt; "call {name} {input}")?;
+    let count = source
+        .call(&[input], &mut memory)
+        .map_err(|fault| refused(name, fault))?;
     let mut found = Vec::new(rt.alloc());
-    match source.call(&[input], &mut memory) {
-        Ok(count) => {
-            let columns = source.marks().len();
-            if columns == 0 {
-                return Ok(found);
-            }
-            for row in memory.chunks(columns).take(count) {
-                print!(rt; "  row")?;
-                for value in row {
-                    print!(rt; " {value}")?;
-                }
-                println!(rt; "")?;
-                if let Some(value) = row.get(column) {
-                    found.push(*value)?;
-                }
-            }
-            Ok(found)
+    for row in memory.chunks(source.marks().len()).take(count) {
+        println!(rt; "  row{}", Row(row))?;
+        if let Some(value) = row.get(column) {
+            found.push(*value)?;
         }
-        Err(fault) => Err(refused(name, fault)),
     }
+    Ok(found)
 }
 
 // The refusal of a damaged file, with its number and place.
 fn show_damaged(rt: &(impl Files + Print + AllocGlobal), path: &str) -> anyhow::Result<()> {
     let bytes = fs::read(rt, path)?;
-    let mut register = Register::new();
-    match register.open(&bytes) {
-        Ok(_) => Err(anyhow!("a damaged file was opened")),
-        Err(fault) => {
-            let number = fault.refusal.number();
-            let place = fault.detail;
-            println!(rt; "register {path}: refusal {number} at byte {place}")?;
-            Ok(())
-        }
-    }
+    let Err(fault) = Register::new().open(&bytes) else {
+        return Err(anyhow!("a damaged file was opened"));
+    };
+    println!(rt;
+        "register {path}: {} at byte {}",
+        fault.refusal, fault.detail
+    )?;
+    Ok(())
 }
 
 // Calls a source with one input, and prints how the call ended.
 fn ask<S: Source>(rt: &impl Print, name: &str, source: &mut S, input: u32) -> anyhow::Result<()> {
     let mut memory = [0; ANSWER_ROOM];
+    print!(rt; "{name}: call {input}, ")?;
     match source.call(&[input], &mut memory) {
-        Ok(count) => println!(rt; "{name}: call {input}, rows {count}")?,
-        Err(fault) => {
-            let number = fault.refusal.number();
-            let layer = fault.layer;
-            println!(rt; "{name}: call {input}, refusal {number} at layer {layer}")?;
-        }
+        Ok(count) => println!(rt; "rows {count}")?,
+        Err(fault) => println!(rt; "{} at layer {}", fault.refusal, fault.layer)?,
     }
     Ok(())
 }
@@ -131,21 +103,16 @@ fn show_piles(rt: &HostRuntime) -> anyhow::Result<()> {
 fn follow_pack(rt: &HostRuntime) -> anyhow::Result<()> {
     let mut packs = open(rt, "pack.reg")?;
     let mut recalls = open(rt, "recall.reg")?;
-    let mut batches = match Divider::new(MODULES_IN_BATCH) {
-        Ok(divider) => divider,
-        Err(fault) => return Err(refused("divider", fault)),
-    };
+    let mut batches = Divider::new(MODULES_IN_BATCH).map_err(|fault| refused("divider", fault))?;
     println!(rt; "divider {MODULES_IN_BATCH}: b f f")?;
-    let mut notices = Vec::new(rt.alloc());
+    let mut notices = BTreeSet::new(rt.alloc());
     for module in follow(rt, "pack", &mut packs, PACK, 1)? {
         for batch in follow(rt, "batch", &mut batches, module, 1)? {
             for notice in follow(rt, "recall", &mut recalls, batch, 1)? {
-                notices.push(notice)?;
+                notices.insert(notice)?;
             }
         }
     }
-    notices.sort()?;
-    notices.dedup();
     print!(rt; "notices of pack {PACK}:")?;
     for notice in &notices {
         print!(rt; " {notice}")?;

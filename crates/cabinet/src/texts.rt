@@ -2,18 +2,22 @@
 use catalogue::Catalogue;
 use faults::Fault;
 use lexing::word;
-use ordering::{Conjunction, order};
+use ordering::order;
 use query::Query;
-use std::fs;
 use std::rt::Files;
+use std::{fmt, fs};
 
-// Prints bytes of a text as characters.
-fn show_bytes(rt: &impl Print, bytes: &[u8]) -> anyhow::Result<()> {
-    for byte in bytes {
-        let letter = char::from(*byte);
-        print!(rt; "{letter}")?;
+// Bytes of a text, as characters.
+#[derive(Clone, Copy)]
+struct Letters<'a>(&'a [u8]);
+
+impl<'a> fmt::Display for Letters<'a> {
+    fn fmt<W: fmt::Write>(&self, f: &mut fmt::Formatter<W>) -> fmt::Result {
+        for byte in self.0 {
+            write!(f, "{}", char::from(*byte))?;
+        }
+        Ok(())
     }
-    Ok(())
 }
 
 // Prints the refusal of a text with its number, its place and the word there.
@@ -23,11 +27,23 @@ fn show_refusal(
     catalogue: &[u8],
     query: &[u8],
 ) -> anyhow::Result<()> {
-    let number = fault.refusal.number();
-    let place = fault.detail;
-    print!(rt; "refusal {number} at byte {place}, word ")?;
-    show_bytes(rt, word(&fault, catalogue, query))?;
-    println!(rt; "")?;
+    let shown = Letters(word(&fault, catalogue, query));
+    println!(rt; "{} at byte {}, word {shown}", fault.refusal, fault.detail)?;
+    Ok(())
+}
+
+// Prints the order of a query's literals, or the refusal with the literal's place.
+fn show_places(rt: &impl Print, query: &Query) -> anyhow::Result<()> {
+    match order(query) {
+        Ok(order) => {
+            print!(rt; "order")?;
+            for place in order.places() {
+                print!(rt; " {place}")?;
+            }
+            println!(rt; "")?;
+        }
+        Err(fault) => println!(rt; "{} at literal {}", fault.refusal, fault.literal)?,
+    }
     Ok(())
 }
 
@@ -51,23 +67,4 @@ pub fn show_order(
         Ok(query) => show_places(rt, &query),
         Err(fault) => show_refusal(rt, fault, &catalogue_text, &query_text),
     }
-}
-
-// Prints the order of a query's literals, or the refusal with the literal's place.
-fn show_places(rt: &impl Print, query: &Query) -> anyhow::Result<()> {
-    match order(query) {
-        Ok(order) => {
-            print!(rt; "order")?;
-            for place in order.places() {
-                print!(rt; " {place}")?;
-            }
-            println!(rt; "")?;
-        }
-        Err(fault) => {
-            let number = fault.refusal.number();
-            let literal = fault.literal;
-            println!(rt; "refusal {number} at literal {literal}")?;
-        }
-    }
-    Ok(())
 }

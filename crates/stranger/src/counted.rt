@@ -44,9 +44,6 @@ impl<S: Source> Source for Counted<S> {
     {
         admit(self.below.marks(), inputs, memory.len())?;
         self.calls = self.calls.saturating_add(1);
-        match self.below.call(inputs, memory) {
-            Ok(count) => Ok(count),
-            Err(fault) => Err(fault.raised()),
-        }
+        self.below.call(inputs, memory).map_err(Fault::raised)
     }
 }

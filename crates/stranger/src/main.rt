@@ -5,22 +5,12 @@
 mod counted;
 mod sealed;
 
-use anyhow::anyhow;
 use counted::Counted;
 use ends::Divider;
 use faults::Fault;
 use layers::{Beside, Memo, One, Quota};
 use sealed::Sealed;
-use source::{ANSWER_ROOM, Rack};
-
-// Prints what is known of a fault.
-fn show_fault(rt: &impl Print, fault: Fault) -> anyhow::Result<()> {
-    let number = fault.refusal.number();
-    let layer = fault.layer;
-    let source = fault.source;
-    println!(rt; "  refusal {number} layer {layer} source {source}")?;
-    Ok(())
-}
+use source::{ANSWER_ROOM, Rack, Row};
 
 // Calls a source of the rack with one input, and prints the call and its outcome.
 fn ask<R: Rack>(rt: &impl Print, rack: &mut R, source: usize, input: u32) -> anyhow::Result<()> {
@@ -28,34 +18,30 @@ fn ask<R: Rack>(rt: &impl Print, rack: &mut R, source: usize, input: u32) -> any
     println!(rt; "call {source} {input}")?;
     match rack.call(source, &[input], &mut memory) {
         Ok(count) => {
-            let columns = match rack.marks(source) {
-                Some(marks) => marks.len(),
-                None => 0,
-            };
-            if columns == 0 {
-                return Ok(());
-            }
-            for row in memory.chunks(columns).take(count) {
-                print!(rt; "  row")?;
-                for value in row {
-                    print!(rt; " {value}")?;
+            let columns = rack.marks(source).map_or(0, |marks| marks.len());
+            if columns > 0 {
+                for row in memory.chunks(columns).take(count) {
+                    println!(rt; "  row{}", Row(row))?;
                 }
-                println!(rt; "")?;
             }
-            Ok(())
         }
-        Err(fault) => show_fault(rt, fault),
+        Err(fault) => {
+            let Fault {
+                refusal,
+                layer,
+                source,
+                ..
+            } = fault;
+            println!(rt; "  {refusal} layer {layer} source {source}")?;
+        }
     }
+    Ok(())
 }
 
 fn run(rt: &HostRuntime) -> anyhow::Result<()> {
-    let Ok(divider) = Divider::new(1000) else {
-        return Err(anyhow!("no divider"));
-    };
-    let memo = Memo::new(rt.alloc(), Quota::new(divider, 1))?;
+    let memo = Memo::new(rt.alloc(), Quota::new(Divider::new(1000)?, 1))?;
     let mut rack = Beside(Counted::new(Sealed::new(7, 70, 8)), One(memo));
-    let count = rack.count();
-    println!(rt; "sources {count}")?;
+    println!(rt; "sources {}", rack.count())?;
     ask(rt, &mut rack, 0, 7)?;
     ask(rt, &mut rack, 0, 8)?;
     ask(rt, &mut rack, 0, 9)?;
@@ -63,8 +49,7 @@ fn run(rt: &HostRuntime) -> anyhow::Result<()> {
     ask(rt, &mut rack, 1, 2001007)?;
     ask(rt, &mut rack, 1, 2001008)?;
     ask(rt, &mut rack, 2, 1)?;
-    let calls = rack.0.calls();
-    println!(rt; "counted {calls}")?;
+    println!(rt; "counted {}", rack.0.calls())?;
     Ok(())
 }
 
