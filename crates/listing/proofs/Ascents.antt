@@ -2,6 +2,7 @@
 use Rattle.std.proofs.Common.{◌≡◌, ℕ, zero, suc, ◌<◌, ◌≤◌, Bool, true, false, ◌||◌, eqb, ◌⊎◌, List, [], ◌∷◌, ◌++◌, length, get_or, take, drop, sym, refl, ap, ◌∙◌, subst, inl, inr, arith}
 use Rattle.std.proofs.lemmas.Bool.{and_parts, and_from, or_cases, or_left, false≢true, cases_order, eq-eqb}
 use Rattle.source.specs.Rows.{same, before, is_in, leads, ascending}
+use Rattle.listing.specs.Answers.{Belongs}
 use Rattle.source.proofs.Rows.{same_eq, eq_same, before_irrefl, before_trans, before_at_head, before_in_tail, in_tail, ascending_tail, head_before_all}
 
 -- the rows with one more at a place
@@ -46,14 +47,17 @@ not_from_head (r ∷ rows) row asc l i = go (or_cases (same row r) (is_in row ro
     go (inr m) = before_irrefl row (before_trans row r row l (head_before_all r rows row asc m))
 
 -- a row that belongs at a place is none of the rows
-pub absent : (place : ℕ) (rows : List (List ℕ)) (row : List ℕ) → ascending rows ≡ true → ((k : ℕ) → k < place → before (get_or rows k []) row ≡ true) → leads row (drop place rows) ≡ true → is_in row rows ≡ true → ⊥
-absent zero rows row asc above below i = not_from_head rows row asc below i
-absent (suc place) [] row asc above below i = false≢true i
-absent (suc place) (r ∷ rows) row asc above below i = go (or_cases (same row r) (is_in row rows) i) (absent place rows row (ascending_tail r rows asc) (λ k h. above (suc k) (omega arith)) below)
+pub absent : (place : ℕ) (rows : List (List ℕ)) (row : List ℕ) → ascending rows ≡ true → Belongs rows row place → is_in row rows ≡ false
+absent place rows row asc b = not_true (is_in row rows) (elsewhere place rows asc b.above b.below)
   where
-    go : (same row r ≡ true) ⊎ (is_in row rows ≡ true) → (is_in row rows ≡ true → ⊥) → ⊥
-    go (inl e) rest = before_irrefl row (subst (λ z. before z row ≡ true) (sym (same_eq row r e)) (above 0 (omega arith)))
-    go (inr m) rest = rest m
+    elsewhere : (place : ℕ) (rows : List (List ℕ)) → ascending rows ≡ true → ((k : ℕ) → k < place → before (get_or rows k []) row ≡ true) → leads row (drop place rows) ≡ true → is_in row rows ≡ true → ⊥
+    elsewhere zero rows asc above below i = not_from_head rows row asc below i
+    elsewhere (suc place) [] asc above below i = false≢true i
+    elsewhere (suc place) (r ∷ rows) asc above below i = go (or_cases (same row r) (is_in row rows) i) (elsewhere place rows (ascending_tail r rows asc) (λ k h. above (suc k) (omega arith)) below)
+      where
+        go : (same row r ≡ true) ⊎ (is_in row rows ≡ true) → (is_in row rows ≡ true → ⊥) → ⊥
+        go (inl e) rest = before_irrefl row (subst (λ z. before z row ≡ true) (sym (same_eq row r e)) (above 0 (omega arith)))
+        go (inr m) rest = rest m
 
 pub in_at : (rows : List (List ℕ)) (k : ℕ) (row : List ℕ) → k < length rows → get_or rows k [] ≡ row → is_in row rows ≡ true
 in_at [] k row h e = absurd (omega arith)

@@ -1,14 +1,14 @@
 -- Giving answers to a list, one after another.
-use Rattle.std.proofs.Common.{◌≡◌, ℕ, zero, suc, ◌+◌, ◌-◌, ◌*◌, ◌<◌, ◌≤◌, Bool, true, false, ◌⊎◌, List, [], ◌∷◌, length, get_or, take, drop, sym, refl, ap, ◌∙◌, subst, inl, inr, arith, length-drop}
+use Rattle.std.proofs.Common.{◌≡◌, ℕ, zero, suc, ◌+◌, ◌-◌, ◌*◌, ◌<◌, ◌≤◌, true, false, ◌⊎◌, List, [], ◌∷◌, length, get_or, take, drop, sym, refl, ap, ◌∙◌, subst, inl, inr, arith, length-drop}
 use Rattle.std.proofs.lemmas.Bool.{or_cases, or_left, or_right, true≢false, cases_Bool}
 use Rattle.std.proofs.lemmas.List.{drop-drop, length-take-le}
 use Rattle.std.proofs.lemmas.List.Edits.{length-insert}
 use Rattle.source.specs.Rows.{same, before, is_in, leads, ascending}
 use Rattle.source.proofs.Rows.{same_eq, eq_same, ascending_tail}
-use Rattle.listing.specs.Answers.{answers, Added, listed_before, listed_now, no_place}
-use Rattle.listing.specs.Gathering.{Listing, listed, TooMany, Gathered}
+use Rattle.source.proofs.Chunks.{length_rows_in}
+use Rattle.listing.specs.Answers.{answers, Listing, listed, Added, listed_before, listed_now, no_place}
+use Rattle.listing.specs.Gathering.{TooMany, Gathered}
 use Rattle.listing.proofs.Ascents.{with_row, in_with_row, ascending_with_row, one_before}
-use Rattle.listing.proofs.Placing.{count_answers}
 
 -- nothing was given
 pub none_gathered : (l : Listing) (P : List ℕ → Type 0) → ((row : List ℕ) → P row → ⊥) → Gathered l l P
@@ -114,56 +114,52 @@ find_place (r ∷ rs) row asc out long = go (cases_Bool (before row r)) (find_pl
         record { at = suc p.at; inside = (let i = p.inside in omega arith); above = next b p; below = p.below }
 
 -- one answer was given
-pub one_gathered : (places : ℕ) (answer memory : List ℕ) (count : ℕ) (crowded : Bool) (memory' : List ℕ) (count' : ℕ) (crowded' : Bool) → length answer ≡ 4 → 4 * count ≤ length memory → count' ≤ places →
-    ascending (answers count memory) ≡ true → Added places answer memory count crowded memory' count' crowded' →
-    Gathered (record { places = places; memory = memory; count = count; crowded = crowded }) (record { places = places; memory = memory'; count = count'; crowded = crowded' }) (λ row. row ≡ answer)
-one_gathered places answer memory count crowded memory' count' crowded' four room within asc (listed_before there same_memory same_count same_crowded) = record {
-  places = refl;
+pub one_gathered : (answer : List ℕ) (old new : Listing) → length answer ≡ 4 → 4 * old.count ≤ length old.memory → new.count ≤ old.places → ascending (listed old) ≡ true → Added answer old new → Gathered old new (λ row. row ≡ answer)
+one_gathered answer old new four room within asc (listed_before there same) =
+    subst (λ (l : Listing). Gathered old l (λ row. row ≡ answer)) (sym same) (record {
+      places = refl;
+      more = omega arith;
+      kept = λ row h. h;
+      sound = λ row h. inl h;
+      complete = λ c row e. subst (λ (r : List ℕ). is_in r (listed old) ≡ true) (sym e) there;
+      still = λ c. c;
+      crowd = λ c. inl c;
+      behind = refl;
+      beyond = refl;
+    })
+one_gathered answer old new four room within asc (listed_now absent same_places one_more members behind same_crowded) = record {
+  places = same_places;
   more = omega arith;
-  kept = λ row h. subst (λ (l : List (List ℕ)). is_in row l ≡ true) (sym rows_same) h;
-  sound = λ row h. inl (subst (λ (l : List (List ℕ)). is_in row l ≡ true) rows_same h);
-  complete = λ c row e. subst (λ (l : List (List ℕ)). is_in row l ≡ true) (sym rows_same) (subst (λ (r : List ℕ). is_in r (answers count memory) ≡ true) (sym e) there);
-  still = λ c. same_crowded ∙ c;
-  crowd = λ c. inl (sym same_crowded ∙ c);
-  behind = ap (λ (m : List ℕ). drop (4 * count') m) same_memory;
-  beyond = ap (λ (m : List ℕ). drop (4 * places) m) same_memory;
-}
-  where
-    rows_same : answers count' memory' ≡ answers count memory
-    rows_same = ap (λ (n : ℕ). answers n memory') same_count ∙ ap (answers count) same_memory
-one_gathered places answer memory count crowded memory' count' crowded' four room within asc (listed_now absent one_more members behind same_crowded) = record {
-  places = refl;
-  more = omega arith;
-  kept = λ row h. members row ∙ or_right (same row answer) (is_in row (answers count memory)) h;
-  sound = λ row h. elim (or_cases (same row answer) (is_in row (answers count memory)) (sym (members row) ∙ h)) [ inl e ↦ inr (same_eq row answer e) | inr m ↦ inl m ];
-  complete = λ c row e. members row ∙ or_left (same row answer) (is_in row (answers count memory)) (eq_same row answer e);
+  kept = λ row h. members row ∙ or_right (same row answer) (is_in row (listed old)) h;
+  sound = λ row h. elim (or_cases (same row answer) (is_in row (listed old)) (sym (members row) ∙ h)) [ inl e ↦ inr (same_eq row answer e) | inr m ↦ inl m ];
+  complete = λ c row e. members row ∙ or_left (same row answer) (is_in row (listed old)) (eq_same row answer e);
   still = λ c. same_crowded ∙ c;
   crowd = λ c. inl (sym same_crowded ∙ c);
   behind = behind;
-  beyond = further count' places memory' memory within behind;
+  beyond = further new.count old.places new.memory old.memory within behind;
 }
-one_gathered places answer memory count crowded memory' count' crowded' four room within asc (no_place absent full same_memory same_count now_crowded) = record {
-  places = refl;
+one_gathered answer old new four room within asc (no_place absent full same_places same_memory same_count now_crowded) = record {
+  places = same_places;
   more = omega arith;
   kept = λ row h. subst (λ (l : List (List ℕ)). is_in row l ≡ true) (sym rows_same) h;
   sound = λ row h. inl (subst (λ (l : List (List ℕ)). is_in row l ≡ true) rows_same h);
   complete = λ c row e. absurd (true≢false (sym now_crowded ∙ c));
   still = λ c. now_crowded;
   crowd = λ c. inr one_too_many;
-  behind = ap (λ (m : List ℕ). drop (4 * count') m) same_memory;
-  beyond = ap (λ (m : List ℕ). drop (4 * places) m) same_memory;
+  behind = ap (λ (m : List ℕ). drop (4 * new.count) m) same_memory;
+  beyond = ap (λ (m : List ℕ). drop (4 * old.places) m) same_memory;
 }
   where
-    rows_same : answers count' memory' ≡ answers count memory
-    rows_same = ap (λ (n : ℕ). answers n memory') same_count ∙ ap (answers count) same_memory
+    rows_same : listed new ≡ listed old
+    rows_same = ap (λ (n : ℕ). answers n new.memory) same_count ∙ ap (answers old.count) same_memory
 
-    place : Place (answers count memory) answer
-    place = find_place (answers count memory) answer asc (λ i. true≢false (sym i ∙ absent)) (subst (λ (n : ℕ). AllLong n (answers count memory)) (sym four) (all_four count memory room))
+    place : Place (listed old) answer
+    place = find_place (listed old) answer asc (λ i. true≢false (sym i ∙ absent)) (subst (λ (n : ℕ). AllLong n (listed old)) (sym four) (all_four old.count old.memory room))
 
-    one_too_many : TooMany places (answers count memory) (λ row. row ≡ answer)
+    one_too_many : TooMany old.places (listed old) (λ row. row ≡ answer)
     one_too_many = record {
-      rows = with_row (answers count memory) place.at answer;
-      many = length-insert (answers count memory) place.at answer place.inside ∙ ap (λ (n : ℕ). n + 1) (count_answers count memory ∙ full);
-      ascends = ascending_with_row place.at (answers count memory) answer place.inside asc place.above place.below;
-      each = λ row x. elim (or_cases (same row answer) (is_in row (answers count memory)) (sym (in_with_row place.at (answers count memory) answer row) ∙ x)) [ inl e ↦ inr (same_eq row answer e) | inr m ↦ inl m ];
+      rows = with_row (listed old) place.at answer;
+      many = length-insert (listed old) place.at answer place.inside ∙ ap (λ (n : ℕ). n + 1) (length_rows_in 4 old.count old.memory ∙ full);
+      ascends = ascending_with_row place.at (listed old) answer place.inside asc place.above place.below;
+      each = λ row x. elim (or_cases (same row answer) (is_in row (listed old)) (sym (in_with_row place.at (listed old) answer row) ∙ x)) [ inl e ↦ inr (same_eq row answer e) | inr m ↦ inl m ];
     }

@@ -1,3 +1,4 @@
 pub mod Placing
 pub mod Ascents
 pub mod Gathering
+pub mod Searching

@@ -1,21 +1,10 @@
 -- What stands in the memory after an answer was put at a place.
-use Rattle.std.proofs.Common.{◌≡◌, ℕ, zero, suc, ◌+◌, ◌-◌, ◌*◌, ◌<◌, ◌≤◌, List, [], ◌∷◌, ◌++◌, length, get_or, take, drop, sym, refl, ap, ◌∙◌, append_assoc, arith, length-append, length-drop}
+use Rattle.std.proofs.Common.{◌≡◌, ℕ, zero, suc, ◌+◌, ◌-◌, ◌*◌, ◌≤◌, List, [], ◌∷◌, ◌++◌, length, take, drop, sym, refl, ap, ◌∙◌, append_assoc, arith, length-append, length-drop}
 use lib.Seq.{paste}
 use Rattle.std.proofs.lemmas.List.{take_at, drop_at, drop-drop, take-take, take-append-le, length-take-le}
 use borrow.Rule.Slice.PartMut.{put_mid}
 use Rattle.listing.specs.Answers.{answers}
 use Rattle.listing.proofs.Ascents.{with_row}
-
-pub count_answers : (count : ℕ) (m : List ℕ) → length (answers count m) ≡ count
-count_answers zero m = refl
-count_answers (suc count) m = ap suc (count_answers count (drop 4 m))
-
-pub answer_is : (count : ℕ) (m : List ℕ) (k : ℕ) → k < count → get_or (answers count m) k [] ≡ take 4 (drop (4 * k) m)
-answer_is zero m k h = absurd (omega arith)
-answer_is (suc count) m zero h = refl
-answer_is (suc count) m (suc k) h =
-    let e : 4 + 4 * k ≡ 4 * suc k = omega arith in
-    answer_is count (drop 4 m) k (omega arith) ∙ ap (λ (l : List ℕ). take 4 l) (drop-drop (4 * k) 4 m ∙ ap (λ (n : ℕ). drop n m) e)
 
 -- what a move by four and a write at the gap leave
 pub moved : (m now ys answer : List ℕ) (a e : ℕ) → a ≤ e → e + 4 ≤ length m → now ≡ paste m (a + 4) (drop a m) (e - a) → ys ≡ answer → put_mid a (a + 4 - a) now ys ≡ take a m ++ (answer ++ (take (e - a) (drop a m) ++ drop (e + 4) m))

@@ -1,35 +1,46 @@
 -- Answers in memory: four numbers each, one after another from its start.
-use Rattle.std.specs.Prelude.{◌≡◌, ℕ, zero, suc, ◌+◌, ◌*◌, ◌/◌, ◌<◌, ◌≤◌, min, Bool, true, false, ◌||◌, List, [], ◌∷◌, ◌++◌, length, take, drop, replicate, Some, None, Option, slice_index_or}
-use Rattle.source.specs.Rows.{same, before, is_in, leads}
-use Rattle.listing.specs.declared.Spot.{Spot}
-use Rattle.listing.specs.declared.Spot.TheVariants.{Held, Gap}
+use Rattle.std.specs.Prelude.{◌≡◌, ℕ, ◌+◌, ◌*◌, ◌/◌, ◌<◌, ◌≤◌, min, Bool, true, false, ◌||◌, List, [], ◌++◌, length, drop, replicate, Some, None, Ok, Err, Option, Result, is_none, slice_index_or}
+use Rattle.source.specs.Rows.{same, before, is_in, leads, rows_in}
 
 -- the first answers in the memory, this many
 abbrev pub answers : ℕ → List ℕ → List (List ℕ)
-answers zero memory = []
-answers (suc count) memory = take 4 memory ∷ answers count (drop 4 memory)
+answers count memory = rows_in 4 count memory
 
 -- how many answers have a place in the memory
 abbrev pub places_in : List ℕ → ℕ
 places_in memory = min (length memory / 4) 1024
 
--- an answer was given to a list of so many places:
+-- how many answers are listed, where a list says nothing once one found no place: then every place is taken
+abbrev pub count_listed : ℕ → Option ℕ → ℕ
+count_listed places (Some count) = count
+count_listed places None = places
+
+-- a list as it stands: how many places it has, the memory, how many answers are listed, and whether one found no place
+pub record Listing : Type 0 where
+  pub places : ℕ
+  pub memory : List ℕ
+  pub count : ℕ
+  pub crowded : Bool
+
+abbrev pub listing : ℕ → List ℕ → Option ℕ → Listing
+listing places memory listed = record { places = places; memory = memory; count = count_listed places listed; crowded = is_none listed }
+
+-- the answers that are listed
+abbrev pub listed : Listing → List (List ℕ)
+listed l = answers l.count l.memory
+
+-- an answer was given to a list:
 -- it was listed already, and nothing changed;
 -- or it found its place among the others, and the numbers behind stay;
 -- or it is not listed and every place is taken, which is noted
-pub data Added (places : ℕ) (answer memory : List ℕ) (count : ℕ) (crowded : Bool) (memory' : List ℕ) (count' : ℕ) (crowded' : Bool) : Type 0 where
-  listed_before : is_in answer (answers count memory) ≡ true → memory' ≡ memory → count' ≡ count → crowded' ≡ crowded → Added places answer memory count crowded memory' count' crowded'
-  listed_now : is_in answer (answers count memory) ≡ false → count' ≡ count + 1 → ((other : List ℕ) → is_in other (answers count' memory') ≡ (same other answer || is_in other (answers count memory))) → drop (4 * count') memory' ≡ drop (4 * count') memory → crowded' ≡ crowded → Added places answer memory count crowded memory' count' crowded'
-  no_place : is_in answer (answers count memory) ≡ false → count ≡ places → memory' ≡ memory → count' ≡ count → crowded' ≡ true → Added places answer memory count crowded memory' count' crowded'
+pub data Added (answer : List ℕ) (old new : Listing) : Type 0 where
+  listed_before : is_in answer (listed old) ≡ true → new ≡ old → Added answer old new
+  listed_now : is_in answer (listed old) ≡ false → new.places ≡ old.places → new.count ≡ old.count + 1 → ((other : List ℕ) → is_in other (listed new) ≡ (same other answer || is_in other (listed old))) → drop (4 * new.count) new.memory ≡ drop (4 * new.count) old.memory → new.crowded ≡ old.crowded → Added answer old new
+  no_place : is_in answer (listed old) ≡ false → old.count ≡ old.places → new.places ≡ old.places → new.memory ≡ old.memory → new.count ≡ old.count → new.crowded ≡ true → Added answer old new
 
 -- the memory with every place zero, and the numbers behind the places as they were
 abbrev pub cleared : ℕ → List ℕ → List ℕ
 cleared places memory = replicate (4 * places) 0 ++ drop (4 * places) memory
-
--- what a list says at its end: how many answers it has, or nothing where one found no place
-abbrev pub Closed : ℕ → Bool → Option ℕ → Type 0
-Closed count crowded (Some n) = (crowded ≡ false) × (n ≡ count)
-Closed count crowded None = crowded ≡ true
 
 -- the rows before the place come before the row, and the row comes before the others
 pub record Belongs (rows : List (List ℕ)) (row : List ℕ) (place : ℕ) : Type 0 where
@@ -38,6 +49,6 @@ pub record Belongs (rows : List (List ℕ)) (row : List ℕ) (place : ℕ) : Typ
   pub below : leads row (drop place rows) ≡ true
 
 -- the row is one of the rows, or belongs at the place
-abbrev pub Spotted : List (List ℕ) → List ℕ → Spot → Type 0
-Spotted rows row Held = is_in row rows ≡ true
-Spotted rows row (Gap place) = Belongs rows row place
+abbrev pub Spotted : List (List ℕ) → List ℕ → Result ℕ ℕ → Type 0
+Spotted rows row (Ok place) = is_in row rows ≡ true
+Spotted rows row (Err place) = Belongs rows row place

@@ -1,22 +1,11 @@
 -- What comes of a list to which answers are given.
-use Rattle.std.specs.Prelude.{◌≡◌, ℕ, ◌+◌, ◌*◌, ◌≤◌, Bool, true, false, ◌⊎◌, List, length, drop}
+use Rattle.std.specs.Prelude.{◌≡◌, ℕ, ◌+◌, ◌*◌, ◌≤◌, true, false, ◌⊎◌, List, length, drop}
 use Rattle.source.specs.Rows.{is_in, ascending}
 use Rattle.listing.specs.declared.AnswerList.{AnswerList}
-use Rattle.listing.specs.Answers.{answers}
-
--- a list as it stands: how many places it has, the memory, how many answers are listed, and whether one found no place
-pub record Listing : Type 0 where
-  pub places : ℕ
-  pub memory : List ℕ
-  pub count : ℕ
-  pub crowded : Bool
+use Rattle.listing.specs.Answers.{Listing, listing, listed}
 
 abbrev pub listing_of : AnswerList → Listing
-listing_of l = record { places = l.places; memory = l.memory.now; count = l.count; crowded = l.crowded }
-
--- the answers that are listed
-abbrev pub listed : Listing → List (List ℕ)
-listed l = answers l.count l.memory
+listing_of l = listing l.places l.memory.now l.listed
 
 -- there are more than the places: so many different rows, each of them listed before or one of those of which P holds
 pub record TooMany (places : ℕ) (before : List (List ℕ)) (P : List ℕ → Type 0) : Type 0 where

@@ -2,36 +2,30 @@
 // ascending from the start of the memory.
 #![tactic(auto)]
 
-ghost use Rattle.std.specs.Prelude.{◌≡◌, ℕ, ◌+◌, ◌-◌, ◌*◌, ◌<◌, ◌≤◌, true, false, ◌++◌, length, take, drop};
+ghost use Rattle.std.specs.Prelude.{◌≡◌, ℕ, ◌+◌, ◌-◌, ◌*◌, ◌<◌, ◌≤◌, true, ◌++◌, length, take, drop};
 ghost use Rattle.source.specs.Rows.{ascending};
-ghost use Rattle.listing.specs.Answers.{answers, places_in, cleared, Added, Closed, Spotted};
-
-use source::values::{comes_before, same_values};
+ghost use Rattle.listing.specs.Answers.{answers, places_in, cleared, count_listed, listing, Added, Spotted};
 
 // The most answers that are listed.
 pub const MOST_ANSWERS: usize = 1024;
 
-// Answers in lent memory, and whether one more was given than has a place.
+// Answers in lent memory: how many have a place there, and how many are listed; nothing once one
+// was given that found no place. The memory is kept as numbers and not as cells of four: the library
+// says nothing of what a slice ends as that was cut by `as_chunks_mut`, and its lender is to know.
 pub struct AnswerList<'m> {
     memory: &'m mut [u32],
     places: usize,
-    count: usize,
-    crowded: bool,
+    listed: Option<usize>,
     ghost room: { 4 * places ≤ length memory.now },
-    ghost within: { count ≤ places },
-    ghost ascends: { ascending (answers count memory.now) ≡ true },
+    ghost within: { count_listed places listed ≤ places },
+    ghost ascends: { ascending (answers (count_listed places listed) memory.now) ≡ true },
 }
 
 // How many answers have a place in the memory: one for each four numbers, at most 1,024.
 fn count_places(memory: &[u32]) -> usize
     ensures value { result ≡ places_in memory.now }
 {
-    let quarters = memory.len() / 4;
-    if quarters < MOST_ANSWERS {
-        quarters
-    } else {
-        MOST_ANSWERS
-    }
+    (memory.len() / 4).min(MOST_ANSWERS)
 }
 
 // Writes zero to every place for an answer; the numbers behind the places stay.
@@ -42,36 +36,14 @@ pub fn clear_places(memory: &mut [u32])
     memory[0..4 * places].fill(0);
 }
 
-// Where an answer stands or belongs.
-#[derive(Clone, Copy)]
-enum Spot {
-    Held,
-    Gap(usize),
-}
-
-// The answer at a place.
-fn answer_at(memory: &[u32], place: usize) -> &[u32]
-    requires { 4 * place + 4 ≤ length memory.now }
-    ensures value { result.now ≡ take 4 (drop (4 * place) memory.now) }
-{
-    &memory[4 * place..4 * place + 4]
-}
-
-// Where an answer stands among the listed ones, or belongs.
-fn find_spot(memory: &[u32], count: usize, answer: &[u32; 4]) -> Spot
+// The place of an answer among the listed ones, or the place where it belongs.
+fn find_spot(memory: &[u32], count: usize, answer: &[u32; 4]) -> Result<usize, usize>
     requires room { 4 * count ≤ length memory.now }
+    requires ascends { ascending (answers count memory.now) ≡ true }
     ensures value { Spotted (answers count memory.now) answer.now result }
 {
-    for place in 0..count {
-        let held = answer_at(memory, place);
-        if same_values(held, answer) {
-            return Spot::Held;
-        }
-        if comes_before(answer, held) {
-            return Spot::Gap(place);
-        }
-    }
-    Spot::Gap(count)
+    let (cells, _) = memory.as_chunks::<4>();
+    cells[..count].binary_search(answer)
 }
 
 // Moves the answers from a place on by one, and writes an answer there.
@@ -84,21 +56,41 @@ fn put(memory: &mut [u32], count: usize, place: usize, answer: &[u32; 4])
     memory[4 * place..4 * place + 4].copy_from_slice(answer);
 }
 
+// Puts an answer among the listed ones, if it is not one of them, and says how many are listed then;
+// nothing where there is no place for it.
+fn insert(memory: &mut [u32], places: usize, count: usize, answer: &[u32; 4]) -> Option<usize>
+    requires room { 4 * places ≤ length memory.old }
+    requires within { count ≤ places }
+    requires ascends { ascending (answers count memory.old) ≡ true }
+    ensures within { count_listed places result ≤ places }
+    ensures ascends { ascending (answers (count_listed places result) memory.new) ≡ true }
+    ensures added { Added answer.now (listing places memory.old (Some count)) (listing places memory.new result) }
+{
+    match find_spot(memory, count, answer) {
+        Ok(_) => Some(count),
+        Err(_) if count == places => None,
+        Err(place) => {
+            put(memory, count, place, answer);
+            Some(count + 1)
+        }
+    }
+}
+
 impl<'m> AnswerList<'m> {
+    ghost use Rattle.listing.specs.Gathering.{listing_of};
+
     // An empty list over the memory, with a place for each four numbers of it, at most 1,024.
     pub fn over(memory: &'m mut [u32]) -> AnswerList<'m>
         ensures lender { result.memory.ghost_name ≡ memory.entry.ghost_name }
         ensures memory { result.memory.now ≡ memory.old }
         ensures places { result.places ≡ places_in memory.old }
-        ensures none { result.count ≡ 0 }
-        ensures fits { result.crowded ≡ false }
+        ensures none { result.listed ≡ Some 0 }
     {
         let places = count_places(memory);
         AnswerList {
             memory,
             places,
-            count: 0,
-            crowded: false,
+            listed: Some(0),
         }
     }
 
@@ -106,40 +98,21 @@ impl<'m> AnswerList<'m> {
     // place for it.
     pub fn with(self, answer: &[u32; 4]) -> AnswerList<'m>
         ensures lender { result.memory.ghost_name ≡ self.entry.memory.ghost_name }
-        ensures places { result.places ≡ self.entry.places }
-        ensures added { Added self.entry.places answer.now self.entry.memory.now self.entry.count self.entry.crowded result.memory.now result.count result.crowded }
+        ensures added { Added answer.now (listing_of self.entry) (listing_of result) }
     {
+        let Some(count) = self.listed else {
+            return self;
+        };
         let AnswerList {
             memory,
             places,
-            count,
-            crowded,
+            listed: _,
         } = self;
-        let place = match find_spot(memory, count, answer) {
-            Spot::Held => {
-                return AnswerList {
-                    memory,
-                    places,
-                    count,
-                    crowded,
-                };
-            }
-            Spot::Gap(place) => place,
-        };
-        if count == places {
-            return AnswerList {
-                memory,
-                places,
-                count,
-                crowded: true,
-            };
-        }
-        put(memory, count, place, answer);
+        let listed = insert(memory, places, count, answer);
         AnswerList {
             memory,
             places,
-            count: count + 1,
-            crowded,
+            listed,
         }
     }
 
@@ -147,14 +120,13 @@ impl<'m> AnswerList<'m> {
     // place.
     pub fn close(self) -> Option<usize>
         ensures memory { self.exit.0.now ≡ self.entry.memory.now }
-        ensures count { Closed self.entry.count self.entry.crowded result }
+        ensures listed { result ≡ self.entry.listed }
     {
         let AnswerList {
             memory: _,
             places: _,
-            count,
-            crowded,
+            listed,
         } = self;
-        if crowded { None } else { Some(count) }
+        listed
     }
 }

@@ -1,0 +1,54 @@
+-- A binary search among ascending rows.
+use Rattle.std.proofs.Common.{◌≡◌, ℕ, zero, suc, ◌+◌, ◌<◌, ◌≤◌, true, List, [], ◌∷◌, length, get_or, take, drop, Ok, Err, Result, sym, refl, ap, ◌∙◌, add-one, arith}
+use Rattle.std.specs.Simd.{first_chunks}
+use Rattle.std.specs.Ordering.{is_lt, is_eq, is_gt, nat_cmp}
+use Rattle.std.specs.Cmp.Lexicographic.{slice_cmp}
+use Rattle.std.specs.List.Sorted.{IsBinarySearchResult, IsSearchInRange, IsSortedBy}
+use Rattle.std.proofs.lemmas.Bool.{and_parts}
+use Rattle.std.proofs.lemmas.Bool.Decides.{nat_tests}
+use Rattle.std.proofs.lemmas.Cmp.{same_from_slice_cmp, nat_list_cmp_total}
+use Rattle.std.proofs.lemmas.List.Sorted.{searchable_from_sorted}
+use Rattle.source.specs.Rows.{same, before, ascending, rows_in}
+use Rattle.source.proofs.Rows.{same_eq, before_irrefl, before_trans, ascending_tail}
+use Rattle.listing.specs.Answers.{Spotted}
+use Rattle.listing.proofs.Ascents.{in_at, leads_at, not_true}
+
+-- the first cells of a memory are its first rows
+pub first_cells : (columns count many : ℕ) (memory : List ℕ) → count ≤ many → take count (first_chunks columns many memory) ≡ rows_in columns count memory
+first_cells columns zero many memory le = refl
+first_cells columns (suc count) zero memory le = absurd (omega arith)
+first_cells columns (suc count) (suc many) memory le = ap (λ (rows : List (List ℕ)). take columns memory ∷ rows) (first_cells columns count many (drop columns memory) (omega arith))
+
+-- Rows as the library compares them.
+
+is_before : (xs ys : List ℕ) → is_lt (slice_cmp nat_cmp xs ys) ≡ before xs ys
+is_before xs ys = same_from_slice_cmp nat_cmp is_lt before refl (λ _ _. refl) (λ _ _. refl) (λ x y xs ys o h. grind (arith, nat_tests)) xs ys _ refl
+
+is_behind : (xs ys : List ℕ) → is_gt (slice_cmp nat_cmp xs ys) ≡ before ys xs
+is_behind xs ys = same_from_slice_cmp nat_cmp is_gt (λ xs ys. before ys xs) refl (λ _ _. refl) (λ _ _. refl) (λ x y xs ys o h. grind (arith, nat_tests)) xs ys _ refl
+
+is_same : (xs ys : List ℕ) → is_eq (slice_cmp nat_cmp xs ys) ≡ same xs ys
+is_same xs ys = same_from_slice_cmp nat_cmp is_eq same refl (λ _ _. refl) (λ _ _. refl) (λ x y xs ys o h. grind (arith, nat_tests)) xs ys _ refl
+
+next_behind : (rows : List (List ℕ)) → ascending rows ≡ true → (k : ℕ) (d : List ℕ) → suc k < length rows → before (get_or rows k d) (get_or rows (suc k) d) ≡ true
+next_behind [] asc k d h = absurd (omega arith)
+next_behind (r ∷ []) asc k d h = absurd (omega arith)
+next_behind (r ∷ q ∷ rows) asc zero d h = (and_parts (before r q) (ascending (q ∷ rows)) asc).0
+next_behind (r ∷ q ∷ rows) asc (suc k) d h = next_behind (q ∷ rows) (ascending_tail r (q ∷ rows) asc) k d (omega arith)
+
+sorted : (rows : List (List ℕ)) → ascending rows ≡ true → IsSortedBy (λ x y. is_lt (slice_cmp nat_cmp x y)) rows
+sorted rows asc k d low h =
+    let ahead : before (get_or rows k d) (get_or rows (k + 1) d) ≡ true = rw add-one (next_behind rows asc k d (omega arith)) in
+    let one = get_or rows k d in
+    let next = get_or rows (k + 1) d in
+    is_before next one ∙ not_true (before next one) (λ back. before_irrefl one (before_trans one next one ahead back))
+
+pub spotted : (rows : List (List ℕ)) (row : List ℕ) (r : Result ℕ ℕ) → ascending rows ≡ true → IsSearchInRange r (length rows) → IsBinarySearchResult (λ y. slice_cmp nat_cmp y row) rows r → Spotted rows row r
+spotted rows row (Ok k) asc bound found = in_at rows k row bound (same_eq (get_or rows k []) row (sym (is_same (get_or rows k []) row) ∙ ap is_eq (found [])))
+spotted rows row (Err k) asc bound found =
+    let parted = found (searchable_from_sorted nat_list_cmp_total (λ (x : List ℕ). x) rows row (sorted rows asc)) in
+    record {
+      inside = bound;
+      above = λ j h. sym (is_before (get_or rows j []) row) ∙ ap is_lt (parted.0 j [] (omega arith) h);
+      below = leads_at rows k row (λ h. sym (is_behind (get_or rows k []) row) ∙ ap is_gt (parted.1 k [] (omega arith) h));
+    }
