@@ -21,10 +21,7 @@ pub(crate) fn called<S: Source>(source: &mut S, input: u32) -> (u8, usize) {
 
 // A divider of 1,000.
 pub(crate) fn divider() -> Result<Divider, Fail> {
-    match Divider::new(1000) {
-        Ok(divider) => Ok(divider),
-        Err(_) => Err(Fail::new("no divider")),
-    }
+    Divider::new(1000).map_err(|_| Fail::new("no divider"))
 }
 
 // The file of a register that has so many rows for the input 1.
@@ -42,8 +39,6 @@ fn crowd(heap: Global, rows: u8) -> Result<Vec<u8>, AllocError> {
 pub(crate) fn register(heap: Global, rows: u8) -> Result<Register, Fail> {
     let bytes = crowd(heap, rows)?;
     let mut register = Register::new();
-    match register.open(&bytes) {
-        Ok(_) => Ok(register),
-        Err(_) => Err(Fail::new("not opened")),
-    }
+    register.open(&bytes).map_err(|_| Fail::new("not opened"))?;
+    Ok(register)
 }

@@ -1,8 +1,10 @@
-// Examples of layers and racks, proved to be safe and then run.
+// Examples of layers, racks and lists of answers, proved to be safe and then run.
 #![tactic(auto)]
 
 #[cfg(test)]
 mod calls;
+#[cfg(test)]
+mod listing;
 #[cfg(test)]
 mod memo;
 #[cfg(test)]
