@@ -1,1 +1,2 @@
 pub mod Racking
+pub mod Answering

@@ -23,10 +23,10 @@ impl<S: Source> Memo<S> {
         ensures made { IfOk result (λ m. (m.below ≡ below) × (kept_all m.table ≡ []) × (vec_len m.table.entries ≡ 16)) }
         ensures refused { IfErr result (λ y. y.value ≡ below) }
     {
-        match Table::new(heap) {
-            Ok(table) => Ok(Memo { below, table }),
-            Err(_) => Err(AllocFailed { value: below }),
-        }
+        let Ok(table) = Table::new(heap) else {
+            return Err(AllocFailed { value: below });
+        };
+        Ok(Memo { below, table })
     }
 }
 
@@ -48,13 +48,9 @@ impl<S: Source> Source for Memo<S> {
         if let Some(count) = self.table.recall(self.below.marks(), inputs, memory) {
             return Ok(count);
         }
-        match self.below.call(inputs, memory) {
-            Ok(count) => {
-                self.table
-                    .remember(self.below.marks(), inputs, count, memory);
-                Ok(count)
-            }
-            Err(fault) => Err(fault.raised()),
-        }
+        let count = self.below.call(inputs, memory).map_err(Fault::raised)?;
+        self.table
+            .remember(self.below.marks(), inputs, count, memory);
+        Ok(count)
     }
 }

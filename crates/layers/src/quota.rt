@@ -57,12 +57,8 @@ impl<S: Source> Source for Quota<S> {
         if self.units == 0 {
             return Err(Fault::layered(Refusal::Spent, 0));
         }
-        match self.below.call(inputs, memory) {
-            Ok(count) => {
-                self.units -= 1;
-                Ok(count)
-            }
-            Err(fault) => Err(fault.raised()),
-        }
+        let count = self.below.call(inputs, memory).map_err(Fault::raised)?;
+        self.units -= 1;
+        Ok(count)
     }
 }

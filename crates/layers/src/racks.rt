@@ -29,15 +29,12 @@ impl<S: Source> Rack for One<S> {
     }
 
     fn call(&mut self, source: usize, inputs: &[u32], memory: &mut [u32]) -> Result<usize, Fault> {
-        if source > 0 {
-            if memory.len() < ANSWER_ROOM {
-                return Err(Fault::layered(Refusal::MemoryTooShort, 0));
-            }
-            return Err(Fault::bare(Refusal::NotInCatalogue));
-        }
-        match self.0.call(inputs, memory) {
-            Ok(count) => Ok(count),
-            Err(fault) => Err(fault.of_first_source()),
+        if source == 0 {
+            self.0.call(inputs, memory).map_err(Fault::of_first_source)
+        } else if memory.len() < ANSWER_ROOM {
+            Err(Fault::layered(Refusal::MemoryTooShort, 0))
+        } else {
+            Err(Fault::bare(Refusal::NotInCatalogue))
         }
     }
 }
@@ -60,15 +57,12 @@ impl<S: Source, R: Rack> Rack for Beside<S, R> {
     }
 
     fn call(&mut self, source: usize, inputs: &[u32], memory: &mut [u32]) -> Result<usize, Fault> {
-        if source > 0 {
-            return match self.1.call(source - 1, inputs, memory) {
-                Ok(count) => Ok(count),
-                Err(fault) => Err(fault.of_next_source()),
-            };
-        }
-        match self.0.call(inputs, memory) {
-            Ok(count) => Ok(count),
-            Err(fault) => Err(fault.of_first_source()),
+        if source == 0 {
+            self.0.call(inputs, memory).map_err(Fault::of_first_source)
+        } else {
+            self.1
+                .call(source - 1, inputs, memory)
+                .map_err(Fault::of_next_source)
         }
     }
 }

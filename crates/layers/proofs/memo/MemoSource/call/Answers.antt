@@ -4,6 +4,7 @@ use Rattle.source.specs.Calls.{misuse, Answered}
 use Rattle.layers.specs.Memory.{kept_all, recalled, Remembers}
 use Rattle.layers.specs.Chunks.{rows_in, sound}
 use Rattle.layers.specs.Memoizing.{table_sound, answered_from_entry, answered_below, answer_sound, learned}
+use Rattle.layers.proofs.Answering.{answered_there}
 use Rattle.layers.proofs.memo.MemoSource.call.Goals as goal
 
 pub returns-in-Some : goal.returns-in-Some
@@ -24,20 +25,21 @@ pub remember-requires : goal.remember-requires
 remember-requires g c =
     let s = c.args.self.now.below in
     let m = g.S.Source.meaning s in
+    let m' = g.S.Source.meaning c.call.new.self in
     let w = g.met.S.Source.lawful s in
     let inputs = c.args.inputs.now in
     let admitted = c.in_ok-admit.ensures.admitted in
-    let b = c.in-Ok.ensures.called in
-    let marks : c.marks-in-Ok.result.now ≡ m.marks = c.marks-in-Ok.ensures.value ∙ b.later.marks in
+    let b = answered_there m m' inputs c.recall.new.memory c.call.new.memory c.call.result c.map_err.result c.in_ok-count.count _ c.call.ensures.called c.map_err.ensures.cases c.in_ok-count.was in
+    let marks : c.marks-3.result.now ≡ m.marks = c.marks-3.ensures.value ∙ b.later.marks in
     record {
       columns = omega (arith, ap length marks, w.four_columns);
       given = omega (arith, admitted.2, ap inputs_of c.marks.ensures.value, w.three_given);
       room = omega (arith, admitted.1, c.call.auto.memory, c.recall.auto.memory);
-      sound = λ few. subst (λ z. sound z inputs (rows_in (length z) c.in-Ok.count c.call.new.memory) ≡ true) (sym marks) (answer_sound m (g.S.Source.meaning c.call.new.self) inputs c.recall.new.memory c.call.new.memory c.in-Ok.count w b few);
+      sound = λ few. subst (λ z. sound z inputs (rows_in (length z) c.in_ok-count.count c.call.new.memory) ≡ true) (sym marks) (answer_sound m m' inputs c.recall.new.memory c.call.new.memory c.in_ok-count.count w b few);
     }
 
-pub returns-in-Ok : goal.returns-in-Ok
-returns-in-Ok g c =
+pub returns : goal.returns
+returns g c =
     let s = c.args.self.now.below in
     let m = g.S.Source.meaning s in
     let m' = g.S.Source.meaning c.call.new.self in
@@ -45,13 +47,14 @@ returns-in-Ok g c =
     let table = c.args.self.now.table in
     let inputs = c.args.inputs.now in
     let memory = c.args.memory.now in
+    let count = c.in_ok-count.count in
     let none = c.in_default.ensures in
     let new = subst (λ z. recalled (kept_all table) z inputs ≡ None) c.marks-2.ensures.value none.0 in
-    let b = subst (λ z. Answered m m' inputs z c.call.new.memory c.in-Ok.count) none.1 c.in-Ok.ensures.called in
-    let marks : c.marks-in-Ok.result.now ≡ m.marks = c.marks-in-Ok.ensures.value ∙ b.later.marks in
-    let remembers = subst (λ z. Remembers table c.remember.new.self (record { marks = z; inputs = inputs; rows = rows_in (length z) c.in-Ok.count c.call.new.memory })) marks c.remember.ensures in
+    let b = subst (λ z. Answered m m' inputs z c.call.new.memory count) none.1 (answered_there m m' inputs c.recall.new.memory c.call.new.memory c.call.result c.map_err.result count _ c.call.ensures.called c.map_err.ensures.cases c.in_ok-count.was) in
+    let marks : c.marks-3.result.now ≡ m.marks = c.marks-3.ensures.value ∙ b.later.marks in
+    let remembers = subst (λ z. Remembers table c.remember.new.self (record { marks = z; inputs = inputs; rows = rows_in (length z) count c.call.new.memory })) marks c.remember.ensures in
     record {
-      called = answered_below m m' inputs memory c.call.new.memory c.in-Ok.count w b (kept_all table) (kept_all c.remember.new.self) new (learned m m' inputs memory c.call.new.memory c.in-Ok.count w b table c.remember.new.self new remembers);
+      called = answered_below m m' inputs memory c.call.new.memory count w b (kept_all table) (kept_all c.remember.new.self) new (learned m m' inputs memory c.call.new.memory count w b table c.remember.new.self new remembers);
       below = rw new b;
       learns = rw new remembers;
     }
