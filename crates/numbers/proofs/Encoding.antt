@@ -75,6 +75,10 @@ number_from {bytes} at value rest s l e =
       form = rw (e, take_at (encode value) rest (length (encode value)) refl) (encode_form value s);
     }
 
+-- behind the last byte stands no number
+pub none_past : (bytes : List ℕ) (at : ℕ) → length bytes ≤ at → Stands bytes at None
+none_past bytes at h n form rest s f e = omega (arith, some_byte f, ap length e, length-append form rest, length-drop at bytes)
+
 -- what reading at most five groups finds
 pub stands : (bytes : List ℕ) (at : ℕ) (r : Option (ℕ × ℕ)) → Groups 5 (drop at bytes) r → Stands bytes at r
 stands bytes at None z = λ n form rest s f e. z n form rest s (omega (arith, encode_few n, ap length (form_is s f))) f e

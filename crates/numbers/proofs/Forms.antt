@@ -1,6 +1,6 @@
 -- Forms of numbers: bytes begin with one at most.
-use Rattle.std.proofs.Common.{◌≡◌, ℕ, suc, ◌+◌, ◌-◌, ◌*◌, ◌/◌, ◌%◌, ◌^◌, ◌<◌, ◌≤◌, List, [], ◌∷◌, ◌++◌, length, get_or, take, drop, Some, None, sym, refl, ap, ◌∙◌, arith, length-append, length-drop, take-append-drop}
-use Rattle.std.proofs.lemmas.List.{drop_more, append_cancel_left}
+use Rattle.std.proofs.Common.{◌≡◌, ℕ, suc, ◌+◌, ◌*◌, ◌/◌, ◌%◌, ◌^◌, ◌<◌, ◌≤◌, List, [], ◌∷◌, ◌++◌, length, take, drop, Some, None, sym, refl, ap, ◌∙◌, arith, take-append-drop}
+use Rattle.std.proofs.lemmas.List.{append_cancel_left}
 use Rattle.numbers.specs.Forms.{Form}
 use Rattle.numbers.specs.Forms.Form.{last, more}
 use Rattle.numbers.specs.Reading.{Groups}
@@ -59,44 +59,32 @@ longer x ys rest l (more {n} {rest = t} h f) e =
     record { tail = t; big = h; first = cc; behind = f; bytes_are = cc; long = refl }
 
 -- the steps of a reader
-pub none_left : (most : ℕ) (xs : List ℕ) → most ≡ 0 → Groups most xs None
-none_left most xs z n form rest s few f e = omega (arith, some_byte f)
+pub last_group : (most x : ℕ) (xs : List ℕ) → 1 ≤ most → x < 128 → Groups most (x ∷ xs) (Some (x, 1))
+last_group most x xs z h = (omega arith, omega arith, omega arith, last h)
 
-pub no_bytes : (most at : ℕ) (xs : List ℕ) → length xs ≤ at → Groups most (drop at xs) None
-no_bytes most at xs h n form rest s few f e =
-    let l : length (drop at xs) ≡ length form + length rest = ap length e ∙ length-append form rest in
-    omega (arith, some_byte f, length-drop at xs)
+module _ (most x : ℕ) (xs : List ℕ) (follows : 128 ≤ x) where
+  none_more : ((n : ℕ) (form rest : List ℕ) → n < 2 ^ 32 → 128 ≤ n → length form ≤ most → Form (n / 128) form → xs ≡ form ++ rest → ⊥) → Groups (most + 1) (x ∷ xs) None
+  none_more never n form rest s few f e =
+      let g = longer x xs rest follows f e in
+      never n g.tail rest s g.big (omega (arith, g.long)) g.behind g.bytes_are
 
-pub last_group : (most at : ℕ) (xs : List ℕ) → (most ≡ 0 → ⊥) → at < length xs → get_or xs at 0 < 128 → Groups most (drop at xs) (Some (get_or xs at 0, 1))
-last_group most at xs z l h = (omega arith, omega arith, omega (arith, length-drop at xs), rw (drop_more xs at 0 l) (last h))
+  -- the number behind the first group is this one
+  behind_is : (m v k : ℕ) (form rest : List ℕ) → k ≤ length xs → Form v (take k xs) → Form m form → xs ≡ form ++ rest → m ≡ v
+  behind_is m v k form rest l f g e = same_start rest (drop k xs) g f (sym e ∙ sym (take-append-drop k xs))
 
-none_more : (most at : ℕ) (xs : List ℕ) → at < length xs → 128 ≤ get_or xs at 0 → ((n : ℕ) (form rest : List ℕ) → n < 2 ^ 32 → 128 ≤ n → length form ≤ most - 1 → Form (n / 128) form → drop (at + 1) xs ≡ form ++ rest → ⊥) → Groups most (drop at xs) None
-none_more most at xs l h never n form rest s few f e =
-    let i : get_or xs at 0 ∷ drop (at + 1) xs ≡ form ++ rest = sym (drop_more xs at 0 l) ∙ e in
-    let g = longer (get_or xs at 0) (drop (at + 1) xs) rest h f i in
-    never n g.tail rest s g.big (omega (arith, g.long)) g.behind g.bytes_are
+  pub not_shortest : (v k : ℕ) → v ≡ 0 → Groups most xs (Some (v, k)) → Groups (most + 1) (x ∷ xs) None
+  not_shortest v k z g = none_more (λ n form rest s b few f e. omega (arith, behind_is (n / 128) v k form rest g.2 g.3 f e))
 
-pub none_behind : (most at : ℕ) (xs : List ℕ) → at < length xs → 128 ≤ get_or xs at 0 → Groups (most - 1) (drop (at + 1) xs) None → Groups most (drop at xs) None
-none_behind most at xs l h z = none_more most at xs l h (λ n form rest s b few f e. z (n / 128) form rest (omega arith) few f e)
+  pub too_large : (v k : ℕ) → 2 ^ 32 ≤ v * 128 → Groups most xs (Some (v, k)) → Groups (most + 1) (x ∷ xs) None
+  too_large v k z g = none_more (λ n form rest s b few f e. omega (arith, behind_is (n / 128) v k form rest g.2 g.3 f e))
 
--- the number behind the first group is this one
-behind_is : (m v k : ℕ) (ys form rest : List ℕ) → k ≤ length ys → Form v (take k ys) → Form m form → ys ≡ form ++ rest → m ≡ v
-behind_is m v k ys form rest l f g e = same_start rest (drop k ys) g f (sym e ∙ sym (take-append-drop k ys))
-
-pub not_shortest : (most at v k : ℕ) (xs : List ℕ) → at < length xs → 128 ≤ get_or xs at 0 → v ≡ 0 → Groups (most - 1) (drop (at + 1) xs) (Some (v, k)) → Groups most (drop at xs) None
-not_shortest most at v k xs l h z g = none_more most at xs l h (λ n form rest s b few f e. omega (arith, behind_is (n / 128) v k (drop (at + 1) xs) form rest g.2 g.3 f e))
-
-pub too_large : (most at v k : ℕ) (xs : List ℕ) → at < length xs → 128 ≤ get_or xs at 0 → 33554432 ≤ v → Groups (most - 1) (drop (at + 1) xs) (Some (v, k)) → Groups most (drop at xs) None
-too_large most at v k xs l h z g = none_more most at xs l h (λ n form rest s b few f e. omega (arith, behind_is (n / 128) v k (drop (at + 1) xs) form rest g.2 g.3 f e))
-
-pub one_more : (most at v k : ℕ) (xs : List ℕ) → (most ≡ 0 → ⊥) → at < length xs → 128 ≤ get_or xs at 0 → get_or xs at 0 < 256 → (v ≡ 0 → ⊥) → v < 33554432 → Groups (most - 1) (drop (at + 1) xs) (Some (v, k)) → Groups most (drop at xs) (Some (get_or xs at 0 % 128 + 128 * v, k + 1))
-one_more most at v k xs z l h b nz s g =
-    let x : ℕ = get_or xs at 0 in
-    let n : ℕ = x % 128 + 128 * v in
-    let big : 128 ≤ n = omega arith in
-    let d : n / 128 ≡ v = omega arith in
-    let first : 128 + n % 128 ≡ x = omega arith in
-    let k1 : k + 1 ≡ suc k = omega arith in
-    let f : Form n ((128 + n % 128) ∷ take k (drop (at + 1) xs)) = more big (rw d g.3) in
-    let f' : Form n (x ∷ take k (drop (at + 1) xs)) = rw first at f in
-    (omega arith, omega (arith, g.1), omega (arith, g.2, length-drop at xs, length-drop (at + 1) xs), rw (k1, drop_more xs at 0 l) f')
+  pub one_more : (v k : ℕ) → x < 256 → (v ≡ 0 → ⊥) → v * 128 < 2 ^ 32 → Groups most xs (Some (v, k)) → Groups (most + 1) (x ∷ xs) (Some (x % 128 + v * 128, k + 1))
+  one_more v k b nz s g =
+      let n : ℕ = x % 128 + v * 128 in
+      let big : 128 ≤ n = omega arith in
+      let d : n / 128 ≡ v = omega arith in
+      let first : 128 + n % 128 ≡ x = omega arith in
+      let k1 : k + 1 ≡ suc k = omega arith in
+      let f : Form n ((128 + n % 128) ∷ take k xs) = more big (rw d g.3) in
+      let f' : Form n (x ∷ take k xs) = rw first at f in
+      (omega arith, omega (arith, g.1), omega (arith, g.2), rw k1 f')

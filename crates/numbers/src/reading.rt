@@ -1,6 +1,6 @@
-ghost use Rattle.std.specs.Prelude.{drop};
 ghost use Rattle.numbers.specs.Reading.{Groups, Stands, Found};
 
+use crate::writing::GROUP;
 use faults::{Fault, Refusal};
 
 // The bit of a byte that says that another group follows, and so one more than the largest group.
@@ -9,42 +9,28 @@ const MORE: u8 = 128;
 // How many groups a value can have.
 const GROUPS_MAX: u8 = 5;
 
-// From this on, what stands behind a group is too much for a value of 32 bits.
-const TOO_MUCH: u32 = 33_554_432;
-
-// Reads at most `left` groups.
-fn read_groups(bytes: &[u8], at: usize, left: u8) -> Option<(u32, usize)>
-    ensures groups { Groups left (drop at bytes.now) result }
+// Reads at most `left` groups from the start of the bytes.
+fn read_groups(bytes: &[u8], left: u8) -> Option<(u32, usize)>
+    ensures groups { Groups left bytes.now result }
 {
-    if left == 0 {
-        return None;
-    }
-    if at >= bytes.len() {
-        return None;
-    }
-    let first = bytes[at];
+    let behind = left.checked_sub(1)?;
+    let (&first, rest) = bytes.split_first()?;
     if first < MORE {
-        return Some((first as u32, 1));
+        return Some((u32::from(first), 1));
     }
-    match read_groups(bytes, at + 1, left - 1) {
-        Some((value, count)) => {
-            if value == 0 {
-                return None;
-            }
-            if value >= TOO_MUCH {
-                return None;
-            }
-            Some(((first % MORE) as u32 + MORE as u32 * value, count + 1))
-        }
-        None => None,
+    let (value, count) = read_groups(rest, behind)?;
+    if value == 0 {
+        return None;
     }
+    let above = value.checked_mul(GROUP)?;
+    Some((u32::from(first % MORE) + above, count + 1))
 }
 
 // Looks for a number at a place.
 fn find(bytes: &[u8], at: usize) -> Option<(u32, usize)>
     ensures stands { Stands bytes.now at result }
 {
-    read_groups(bytes, at, GROUPS_MAX)
+    read_groups(bytes.get(at..)?, GROUPS_MAX)
 }
 
 // Reads the number that stands at a place: its value, and how many bytes it took. Refused if no
@@ -52,8 +38,5 @@ fn find(bytes: &[u8], at: usize) -> Option<(u32, usize)>
 pub fn read(bytes: &[u8], at: usize) -> Result<(u32, usize), Fault>
     ensures found { Found bytes.now at result }
 {
-    match find(bytes, at) {
-        Some(number) => Ok(number),
-        None => Err(Fault::placed(Refusal::NumberForm, at)),
-    }
+    find(bytes, at).ok_or(Fault::placed(Refusal::NumberForm, at))
 }

@@ -1,24 +1,30 @@
-use Rattle.std.proofs.Common.{drop, arith}
-use Rattle.numbers.proofs.Forms.{none_left, no_bytes, last_group, not_shortest, too_large, one_more, none_behind}
+use Rattle.std.proofs.Common.{◌≡◌, ℕ, ◌+◌, ◌<◌, ◌≤◌, List, get_or, ap, arith}
+use Rattle.numbers.proofs.Forms.{last_group, not_shortest, too_large, one_more}
 use Rattle.numbers.proofs.reading.+read_groups.Goals as goal
 
-pub returns-then-left-eq0 : goal.returns-then-left-eq0
-returns-then-left-eq0 t c = record { groups = none_left c.args.left (drop c.args.at c.args.bytes.now) c.if-left-eq0.true }
-
-pub returns-then-at-bytes : goal.returns-then-at-bytes
-returns-then-at-bytes t c = record { groups = no_bytes c.args.left c.args.at c.args.bytes.now c.if-at-bytes.true }
-
 pub returns-then-first-lt-MORE : goal.returns-then-first-lt-MORE
-returns-then-first-lt-MORE t c = record { groups = last_group c.args.left c.args.at c.args.bytes.now c.if-left-eq0.false c.if-at-bytes.false c.if-first-lt-MORE.true }
+returns-then-first-lt-MORE t c =
+    let some : 1 ≤ c.args.left = omega (arith, c.in_ok-behind.ensures) in
+    let begins = c.in_ok-first.ensures.cases.0 in
+    let byte = c.from.ensures in
+    let few = c.if-first-lt-MORE.true in
+    record { groups = rw (begins, byte) (last_group _ _ _ some few) }
 
 pub returns-then-value-eq0 : goal.returns-then-value-eq0
-returns-then-value-eq0 t c = record { groups = not_shortest c.args.left c.args.at _ _ c.args.bytes.now c.if-at-bytes.false c.if-first-lt-MORE.false c.if-value-eq0.true c.in-Some.ensures.groups }
+returns-then-value-eq0 t c =
+    let one : c.args.left ≡ c.in_ok-behind.behind + 1 = omega (arith, c.in_ok-behind.ensures) in
+    record { groups = rw (c.in_ok-first.ensures.cases.0, one) (not_shortest _ _ _ c.if-first-lt-MORE.false _ _ c.if-value-eq0.true c.in_ok-value.ensures.groups) }
 
-pub returns-then-value-ge-TOO_MUCH : goal.returns-then-value-ge-TOO_MUCH
-returns-then-value-ge-TOO_MUCH t c = record { groups = too_large c.args.left c.args.at _ _ c.args.bytes.now c.if-at-bytes.false c.if-first-lt-MORE.false c.if-value-ge-TOO_MUCH.true c.in-Some.ensures.groups }
+pub returns-in_err-above : goal.returns-in_err-above
+returns-in_err-above t c =
+    let one : c.args.left ≡ c.in_ok-behind.behind + 1 = omega (arith, c.in_ok-behind.ensures) in
+    record { groups = rw (c.from_residual-in_err-above.ensures, c.in_ok-first.ensures.cases.0, one) (too_large _ _ _ c.if-first-lt-MORE.false _ _ (omega (arith, c.in_err-above.ensures)) c.in_ok-value.ensures.groups) }
 
-pub returns-else-value-ge-TOO_MUCH : goal.returns-else-value-ge-TOO_MUCH
-returns-else-value-ge-TOO_MUCH t c = record { groups = one_more c.args.left c.args.at _ _ c.args.bytes.now c.if-left-eq0.false c.if-at-bytes.false c.if-first-lt-MORE.false (omega arith) c.if-value-eq0.false c.if-value-ge-TOO_MUCH.false c.in-Some.ensures.groups }
-
-pub returns-in-None : goal.returns-in-None
-returns-in-None t c = record { groups = none_behind c.args.left c.args.at c.args.bytes.now c.if-at-bytes.false c.if-first-lt-MORE.false c.in-None.ensures.groups }
+pub returns : goal.returns
+returns t c =
+    let one : c.args.left ≡ c.in_ok-behind.behind + 1 = omega (arith, c.in_ok-behind.ensures) in
+    let byte = c.from-2.ensures in
+    let above = c.in_ok-above.ensures in
+    let begins = c.in_ok-first.ensures.cases.0 in
+    let fits : c.in_ok-first.field-0-0.now < 256 = omega (arith, c.type_inv.bytes 0, ap (λ (xs : List ℕ). get_or xs 0 0) begins) in
+    record { groups = rw (begins, one, byte, above.1) (one_more _ _ _ c.if-first-lt-MORE.false _ _ fits c.if-value-eq0.false above.0 c.in_ok-value.ensures.groups) }
