@@ -1,10 +1,10 @@
 -- What a call to a source does.
-use Rattle.std.specs.Prelude.{◌≡◌, ℕ, ◌≤◌, Bool, true, false, cond, List, ◌++◌, length, drop, Some, None, Ok, Err, Option, Result, ◌==◌, nat_lt}
+use Rattle.std.specs.Prelude.{◌≡◌, ℕ, ◌≤◌, Bool, true, false, cond, List, length, Some, None, Ok, Err, Option, Result, ◌==◌, nat_lt}
 use Rattle.faults.specs.declared.fault.Fault.{Fault}
 use Rattle.faults.specs.declared.refusal.Refusal.TheVariants.{MemoryTooShort, NotInCatalogue, Spent}
 use Rattle.faults.specs.Faults.{layered}
 use Rattle.source.specs.declared.mark.Mark.{Mark}
-use Rattle.source.specs.Rows.{is_in, ascending, flat}
+use Rattle.source.specs.Rows.{is_in, ascending, Written}
 use Rattle.source.specs.Marks.{inputs_of}
 use Rattle.source.specs.Meaning.{Meaning, Bar, clear, barred, wanted}
 
@@ -49,14 +49,13 @@ pub record Answer (m : Meaning) (inputs : List ℕ) (rows : List (List ℕ)) : T
   pub ascends : ascending rows ≡ true
   pub exact : (row : List ℕ) → is_in row rows ≡ wanted m inputs row
 
--- an answered call: not refused; the rows stand without gaps from the start of the memory, and the
--- rest of it is as before
+-- an answered call: not refused; the rows are written
 pub record Answered (m m' : Meaning) (inputs memory memory' : List ℕ) (count : ℕ) : Type 0 where
   pub granted : refusal m inputs (length memory) ≡ None
   pub rows : List (List ℕ)
   pub answer : Answer m inputs rows
   pub counted : count ≡ length rows
-  pub written : memory' ≡ flat rows ++ drop (length (flat rows)) memory
+  pub written : Written rows memory memory'
   pub later : Later m m'
 
 -- a refused call changes neither the meaning nor the memory

@@ -1,5 +1,5 @@
 -- Rows of values. A value is a whole number below 2^32, and a row is a list of values.
-use Rattle.std.specs.Prelude.{ℕ, zero, suc, ◌^◌, Bool, true, false, ◌&&◌, ◌||◌, List, [], ◌∷◌, ◌++◌, take, drop, ◌==◌, nat_lt}
+use Rattle.std.specs.Prelude.{◌≡◌, ℕ, zero, suc, ◌^◌, Bool, true, false, ◌&&◌, ◌||◌, List, [], ◌∷◌, ◌++◌, length, take, drop, ◌==◌, nat_lt}
 
 -- each number is a value
 abbrev pub all_values : List ℕ → Bool
@@ -44,3 +44,7 @@ flat (r ∷ rs) = r ++ flat rs
 abbrev pub rows_in : ℕ → ℕ → List ℕ → List (List ℕ)
 rows_in columns zero values = []
 rows_in columns (suc count) values = take columns values ∷ rows_in columns count (drop columns values)
+
+-- the rows stand without gaps from the start of the memory, and the rest of it is as before
+abbrev pub Written : List (List ℕ) → List ℕ → List ℕ → Type 0
+Written rows memory memory' = memory' ≡ flat rows ++ drop (length (flat rows)) memory

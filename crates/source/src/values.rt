@@ -4,6 +4,9 @@ ghost use Rattle.source.specs.Marks.{inputs_of, matches, same_marks};
 
 use crate::mark::Mark;
 
+// The next three are operators: each stands here once with a clause in the words of specs/, so that
+// callers need no lemma on what the operator decides.
+
 // Whether two lists of values are equal.
 pub fn same_values(a: &[u32], b: &[u32]) -> bool
     ensures value { result ≡ same a.now b.now }
