@@ -1,2 +1,4 @@
 pub mod Racking
 pub mod Answering
+pub mod Chunking
+pub mod Finding

@@ -1,7 +1,6 @@
 pub mod Limits
-pub mod Chunks
+pub mod Entries
 pub mod Memory
 pub mod Memoizing
-pub mod Chunking
 pub mod Recalling
 pub mod Limiting

@@ -5,21 +5,21 @@ use Rattle.std.proofs.Math.Path.{fun_ext}
 use Rattle.std.proofs.lemmas.List.{take_more_set, map_push}
 use Rattle.std.proofs.lemmas.Bool.{and_parts, and_from, or_cases, leb-true, le-leb, ltb-true, cases_Bool, both_ways, cond-true, cond-false, false≢true}
 use Rattle.source.specs.declared.mark.Mark.{Mark}
-use Rattle.source.specs.Rows.{same, is_in, ascending, flat}
+use Rattle.source.specs.Rows.{same, is_in, ascending, flat, rows_in}
 use Rattle.source.specs.Marks.{picked, matches, whole, same_marks, all_whole}
 use Rattle.source.specs.Meaning.{Bar, clear, barred, Meaning, Lawful, wanted, Proper, raised_bar}
 use Rattle.faults.specs.declared.fault.Fault.{Fault}
 use Rattle.source.specs.Calls.{misuse, bar_fault, earlier, MayBecome, Later, Answered}
 use Rattle.source.proofs.Rows.{same_eq, eq_same, in_head, in_tail}
+use Rattle.source.proofs.Chunks.{rows_in_flat}
 use Rattle.source.proofs.Matching.{each_whole, whole_all}
 use Rattle.source.proofs.Unique.{within_no_longer}
 use Rattle.source.proofs.Columns.{same_marks_eq}
 use Rattle.source.proofs.Calls.{refused_by_bar, later_same, raised_proper, raised_becomes}
 use Rattle.layers.specs.declared.entry.Entry.{Entry}
 use Rattle.layers.specs.declared.table.Table.{Table}
-use Rattle.layers.specs.Chunks.{rows_in, all_match, sound}
-use Rattle.layers.specs.Memory.{Remembered, kept, kept_all, is_for, recalled, related, recalled_bar, memoized, Fills, Remembers}
-use Rattle.layers.specs.Chunking.{rows_in_flat}
+use Rattle.layers.specs.Entries.{all_match, sound}
+use Rattle.layers.specs.Memory.{Remembered, from_memory, kept, kept_all, is_for, recalled, related, recalled_bar, memoized, Fills, Remembers}
 use Rattle.layers.specs.Recalling.{recalled_later, recalled_earlier}
 
 -- Rows that may be remembered.
@@ -216,10 +216,10 @@ module _ (m m' : Meaning) (inputs memory memory' : List ℕ) (count : ℕ) (w : 
     }
 
   abbrev entry : Remembered
-  entry = record { marks = m.marks; inputs = inputs; rows = rows_in (length m.marks) count memory' }
+  entry = from_memory m.marks inputs count memory'
 
   -- what a table learns is such growth
-  pub learned : (before after : Table) → recalled (kept_all before) m.marks inputs ≡ None → Remembers before after (record { marks = m.marks; inputs = inputs; rows = rows_in (length m.marks) count memory' }) → Grown (kept_all before) (kept_all after)
+  pub learned : (before after : Table) → recalled (kept_all before) m.marks inputs ≡ None → Remembers before after entry → Grown (kept_all before) (kept_all after)
   learned before after new h = go (nat_le (length (rows_in (length m.marks) count memory')) 8 && nat_lt before.used (vec_len before.entries)) refl h
     where
       appended : (f : Fills before after entry) → before.used < vec_len before.entries → kept_all after ≡ kept_all before ++ entry ∷ []

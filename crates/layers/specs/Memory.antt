@@ -3,13 +3,13 @@ use Rattle.std.specs.Prelude.{◌≡◌, ℕ, ◌+◌, Bool, cond, ◌&&◌, Lis
 use Rattle.faults.specs.declared.fault.Fault.{Fault}
 use Rattle.std.specs.Vec.{with_item}
 use Rattle.source.specs.declared.mark.Mark.{Mark}
-use Rattle.source.specs.Rows.{same, is_in, flat}
+use Rattle.source.specs.Rows.{same, is_in, flat, rows_in}
 use Rattle.source.specs.Marks.{picked, same_marks}
 use Rattle.source.specs.Meaning.{Bar, clear, Meaning, raised_bar}
 use Rattle.source.specs.Calls.{PassedOn}
 use Rattle.layers.specs.declared.entry.Entry.{Entry}
 use Rattle.layers.specs.declared.table.Table.{Table}
-use Rattle.layers.specs.Chunks.{rows_in}
+use Rattle.bounded.specs.Held.{held}
 
 -- rows remembered for a list of inputs, under the marks that were asked
 pub record Remembered : Type 0 where
@@ -17,9 +17,13 @@ pub record Remembered : Type 0 where
   pub inputs : List ℕ
   pub rows : List (List ℕ)
 
+-- the rows that stand from the start of the memory, so many of them, remembered for the inputs
+abbrev pub from_memory : List Mark → List ℕ → ℕ → List ℕ → Remembered
+from_memory marks inputs count memory = record { marks = marks; inputs = inputs; rows = rows_in (length marks) count memory }
+
 -- what an entry remembers
 abbrev pub kept : Entry → Remembered
-kept e = record { marks = take e.columns e.marks; inputs = take e.given e.inputs; rows = rows_in e.columns e.count e.values }
+kept e = from_memory (held e.asked.marks) (held e.asked.inputs) e.count (held e.values)
 
 -- what a table remembers: its filled entries, in their order
 abbrev pub kept_all : Table → List Remembered
@@ -84,7 +88,7 @@ Remembers before after new =
 abbrev pub Learns : Table → Table → List Mark → List ℕ → List ℕ → Result ℕ Fault → Type 0
 Learns before after marks inputs memory' (Ok count) =
     MatchOption (recalled (kept_all before) marks inputs)
-    (Remembers before after (record { marks = marks; inputs = inputs; rows = rows_in (length marks) count memory' }))
+    (Remembers before after (from_memory marks inputs count memory'))
     (λ rows. after ≡ before)
 Learns before after marks inputs memory' (Err fault) = after ≡ before
 

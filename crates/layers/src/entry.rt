@@ -1,22 +1,64 @@
-ghost use Rattle.std.specs.Prelude.{◌≡◌, ◌≤◌, true, length, take};
-ghost use Rattle.layers.specs.Chunks.{rows_in, sound};
+ghost use Rattle.std.specs.Prelude.{◌≡◌, ◌*◌, ◌≤◌, true, [], length};
+ghost use Rattle.source.specs.Rows.{rows_in};
+ghost use Rattle.bounded.specs.Held.{held};
+ghost use Rattle.layers.specs.Entries.{sound};
 
-use source::Mark;
+use crate::asked::Asked;
+use bounded::Bounded;
 
-// The rows that a source answered to one list of inputs, and the marks under which it was asked. An
-// entry without columns is empty.
+// How many rows an entry has at the most.
+pub const ENTRY_ROWS: usize = 8;
+
+// How many values an entry has at the most: eight rows of four columns.
+pub const ENTRY_VALUES: usize = 32;
+
+// The rows that a source answered: how many they are, and their values one row after another.
 #[derive(Drop)]
 pub struct Entry {
-    pub marks: [Mark; 4],
-    pub columns: usize,
-    pub inputs: [u32; 3],
-    pub given: usize,
-    pub values: [u32; 32],
+    pub asked: Asked,
     pub count: usize,
-    ghost mark_cells: { length marks ≡ 4 },
-    ghost input_cells: { length inputs ≡ 3 },
-    ghost value_cells: { length values ≡ 32 },
-    ghost four_columns: { columns ≤ 4 },
-    ghost three_given: { given ≤ 3 },
-    ghost sound: { sound (take columns marks) (take given inputs) (rows_in columns count values) ≡ true },
+    pub values: Bounded<u32, ENTRY_VALUES>,
+    ghost full: { length (held values) ≡ count * length (held asked.marks) },
+    ghost sound: { sound (held asked.marks) (held asked.inputs) (rows_in (length (held asked.marks)) count (held values)) ≡ true },
+}
+
+impl Entry {
+    ghost use Rattle.layers.specs.Memory.{kept, from_memory, Writes};
+
+    // An entry that is not filled.
+    pub(crate) fn empty() -> Entry
+        ensures { kept result ≡ from_memory [] [] 0 [] }
+    {
+        Entry {
+            asked: Asked::new(&[], &[]),
+            count: 0,
+            values: Bounded::new(0),
+        }
+    }
+
+    // The entry of the rows that stand from the start of the memory.
+    pub(crate) fn of(asked: Asked, count: usize, memory: &[u32]) -> Entry
+        requires room { ENTRY_VALUES ≤ length memory.now }
+        requires count { count ≤ ENTRY_ROWS }
+        requires sound { sound (held asked.marks) (held asked.inputs) (rows_in (length (held asked.marks)) count memory.now) ≡ true }
+        ensures { kept result ≡ from_memory (held asked.marks) (held asked.inputs) count memory.now }
+    {
+        let used = count * asked.marks.len();
+        Entry {
+            asked,
+            count,
+            values: Bounded::from_slice(&memory[..used], 0).unwrap(),
+        }
+    }
+
+    // Writes the rows from the start of the memory, and returns how many they are.
+    pub(crate) fn write(&self, memory: &mut [u32]) -> usize
+        requires { ENTRY_VALUES ≤ length memory.old }
+        ensures count { result ≡ length (kept self.now).rows }
+        ensures written { Writes (kept self.now).rows memory.old memory.new }
+    {
+        let values = self.values.as_slice();
+        memory[..values.len()].copy_from_slice(values);
+        self.count
+    }
 }

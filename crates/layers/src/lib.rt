@@ -1,11 +1,11 @@
 // What stands over sources: layers over any one of them, and racks of several.
 #![tactic(auto)]
 
+mod asked;
 mod entry;
 pub mod memo;
 pub mod quota;
 pub mod racks;
-mod remembering;
 mod table;
 
 pub use memo::Memo;

@@ -1,8 +1,69 @@
-use crate::entry::Entry;
+ghost use Rattle.std.specs.Prelude.{◌≡◌, ◌≤◌, true, [], length, is_some, IfOk, vec_len, nat_lt};
+ghost use Rattle.std.specs.Borrow.{sem, follows_if};
+ghost use Rattle.std.specs.Option.{ghost_name_of as name_of};
+ghost use Rattle.source.specs.Rows.{rows_in};
+ghost use Rattle.bounded.specs.Held.{held};
+ghost use Rattle.layers.specs.Entries.{sound};
+ghost use Rattle.layers.specs.Memory.{kept_all, from_memory, Recalls, Remembers, with_next};
+ghost use Rattle.layers.specs.contracts.table.Table.{the_row};
+ghost use Rattle.layers.specs.contracts.entry.Entry.{the_row as entry_row};
+
+use crate::asked::Asked;
+use crate::entry::{ENTRY_ROWS, ENTRY_VALUES, Entry};
+use std::alloc::{AllocError, Global};
+
+// How many entries a table has.
+const ENTRIES: usize = 16;
 
 // Entries, of which the first `used` are filled.
 #[derive(Drop)]
 pub struct Table {
     pub entries: Vec<Entry>,
     pub used: usize,
+}
+
+impl Table {
+    // Sixteen empty entries.
+    pub(crate) fn new(heap: Global) -> Result<Table, AllocError>
+        ensures made { IfOk result (λ t. (kept_all t ≡ []) × (vec_len t.entries ≡ 16)) }
+    {
+        let mut entries = Vec::new(heap);
+        entries.resize_with(ENTRIES, Entry::empty)?;
+        Ok(Table { entries, used: 0 })
+    }
+
+    // Lends the next empty entry, if there is one, to be filled.
+    fn next_empty(&mut self) -> Option<&mut Entry>
+        ensures* lends { sem 𝓛 (follows_if the_row entry_row self.entry.ghost_name (name_of result) (with_next self.old) self.old) }
+        ensures some { is_some result ≡ nat_lt self.old.used (vec_len self.old.entries) }
+    {
+        let next = self.used;
+        self.entries.get_mut(next)
+    }
+
+    // Answers from the entry of what is asked, if there is one.
+    pub(crate) fn recall(&self, asked: &Asked, memory: &mut [u32]) -> Option<usize>
+        requires { ENTRY_VALUES ≤ length memory.old }
+        ensures { Recalls (kept_all self.now) (held asked.now.marks) (held asked.now.inputs) memory.old memory.new result }
+    {
+        let mut filled = self.entries.iter().take(self.used);
+        let entry = filled.find(|entry| entry.asked.is_same(asked))?;
+        Some(entry.write(memory))
+    }
+
+    // Fills the next empty entry with the rows that stand from the start of the memory, if they are
+    // few enough and an entry is empty.
+    pub(crate) fn remember(&mut self, asked: Asked, count: usize, memory: &[u32])
+        requires room { ENTRY_VALUES ≤ length memory.now }
+        requires sound { count ≤ ENTRY_ROWS → sound (held asked.marks) (held asked.inputs) (rows_in (length (held asked.marks)) count memory.now) ≡ true }
+        ensures { Remembers self.old self.new (from_memory (held asked.marks) (held asked.inputs) count memory.now) }
+    {
+        if count > ENTRY_ROWS {
+            return;
+        }
+        if let Some(entry) = self.next_empty() {
+            *entry = Entry::of(asked, count, memory);
+            self.used += 1;
+        }
+    }
 }

@@ -1,11 +1,19 @@
-use Rattle.std.proofs.Common.{◌≡◌, true, length, Some, None, sym, refl, ap, ◌∙◌, subst, arith}
+use Rattle.std.proofs.Common.{◌≡◌, length, Some, None, refl, ap, ◌∙◌, subst, arith}
 use Rattle.source.specs.Marks.{inputs_of}
 use Rattle.source.specs.Calls.{misuse, Answered}
-use Rattle.layers.specs.Memory.{kept_all, recalled, Remembers}
-use Rattle.layers.specs.Chunks.{rows_in, sound}
+use Rattle.bounded.specs.Held.{held}
+use Rattle.layers.specs.Memory.{kept_all, recalled, from_memory, Remembers}
 use Rattle.layers.specs.Memoizing.{table_sound, answered_from_entry, answered_below, answer_sound, learned}
 use Rattle.layers.proofs.Answering.{answered_there}
 use Rattle.layers.proofs.memo.MemoSource.call.Goals as goal
+
+pub new-asked-requires : goal.new-asked-requires
+new-asked-requires g c =
+    let w = g.met.S.Source.lawful c.args.self.now.below in
+    record {
+      columns = omega (arith, ap length c.marks-2.ensures.value, w.four_columns);
+      given = omega (arith, c.in_ok-admit.ensures.admitted.2, ap inputs_of c.marks.ensures.value, w.three_given);
+    }
 
 pub returns-in-Some : goal.returns-in-Some
 returns-in-Some g c =
@@ -13,8 +21,9 @@ returns-in-Some g c =
     let m = g.S.Source.meaning c.args.self.now.below in
     let inputs = c.args.inputs.now in
     let found = c.in-Some.ensures in
+    let marks : held c.new-asked.result.marks ≡ m.marks = c.new-asked.ensures.marks ∙ c.marks-2.ensures.value in
     let admitted = subst (λ z. misuse z inputs (length c.args.memory.now) ≡ None) c.marks.ensures.value c.in_ok-admit.ensures.admitted.0 in
-    let recalled_rows : recalled (kept_all table) m.marks inputs ≡ Some found.0 = subst (λ z. recalled (kept_all table) z inputs ≡ Some found.0) c.marks-2.ensures.value found.1 in
+    let recalled_rows : recalled (kept_all table) m.marks inputs ≡ Some found.0 = rw (marks, c.new-asked.ensures.inputs) at found.1 in
     record {
       called = answered_from_entry (kept_all table) m inputs c.args.memory.now c.recall.new.memory c.in-Some.count found.0 (table_sound table) admitted recalled_rows found.2 found.3;
       below = rw recalled_rows refl;
@@ -28,14 +37,11 @@ remember-requires g c =
     let m' = g.S.Source.meaning c.call.new.self in
     let w = g.met.S.Source.lawful s in
     let inputs = c.args.inputs.now in
-    let admitted = c.in_ok-admit.ensures.admitted in
+    let marks : held c.new-asked.result.marks ≡ m.marks = c.new-asked.ensures.marks ∙ c.marks-2.ensures.value in
     let b = answered_there m m' inputs c.recall.new.memory c.call.new.memory c.call.result c.map_err.result c.in_ok-count.count _ c.call.ensures.called c.map_err.ensures.cases c.in_ok-count.was in
-    let marks : c.marks-3.result.now ≡ m.marks = c.marks-3.ensures.value ∙ b.later.marks in
     record {
-      columns = omega (arith, ap length marks, w.four_columns);
-      given = omega (arith, admitted.2, ap inputs_of c.marks.ensures.value, w.three_given);
-      room = omega (arith, admitted.1, c.call.auto.memory, c.recall.auto.memory);
-      sound = λ few. subst (λ z. sound z inputs (rows_in (length z) c.in_ok-count.count c.call.new.memory) ≡ true) (sym marks) (answer_sound m m' inputs c.recall.new.memory c.call.new.memory c.in_ok-count.count w b few);
+      room = omega (arith, c.in_ok-admit.ensures.admitted.1, c.call.auto.memory, c.recall.auto.memory);
+      sound = λ few. rw (marks, c.new-asked.ensures.inputs) (answer_sound m m' inputs c.recall.new.memory c.call.new.memory c.in_ok-count.count w b few);
     }
 
 pub returns : goal.returns
@@ -49,10 +55,10 @@ returns g c =
     let memory = c.args.memory.now in
     let count = c.in_ok-count.count in
     let none = c.in_default.ensures in
-    let new = subst (λ z. recalled (kept_all table) z inputs ≡ None) c.marks-2.ensures.value none.0 in
+    let marks : held c.new-asked.result.marks ≡ m.marks = c.new-asked.ensures.marks ∙ c.marks-2.ensures.value in
+    let new : recalled (kept_all table) m.marks inputs ≡ None = rw (marks, c.new-asked.ensures.inputs) at none.0 in
     let b = subst (λ z. Answered m m' inputs z c.call.new.memory count) none.1 (answered_there m m' inputs c.recall.new.memory c.call.new.memory c.call.result c.map_err.result count _ c.call.ensures.called c.map_err.ensures.cases c.in_ok-count.was) in
-    let marks : c.marks-3.result.now ≡ m.marks = c.marks-3.ensures.value ∙ b.later.marks in
-    let remembers = subst (λ z. Remembers table c.remember.new.self (record { marks = z; inputs = inputs; rows = rows_in (length z) count c.call.new.memory })) marks c.remember.ensures in
+    let remembers : Remembers table c.remember.new.self (from_memory m.marks inputs count c.call.new.memory) = rw (marks, c.new-asked.ensures.inputs) at c.remember.ensures in
     record {
       called = answered_below m m' inputs memory c.call.new.memory count w b (kept_all table) (kept_all c.remember.new.self) new (learned m m' inputs memory c.call.new.memory count w b table c.remember.new.self new remembers);
       below = rw new b;

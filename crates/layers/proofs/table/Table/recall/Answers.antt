@@ -1,29 +1,30 @@
-use Rattle.std.proofs.Common.{◌≡◌, ◌<◌, map, length, take, vec_items, sym, refl, ap, ◌∙◌, subst, arith}
-use Rattle.layers.specs.Memory.{kept, recalled, Writes}
-use Rattle.layers.specs.Recalling.{none_yet, found_here, take_min}
+use Rattle.std.proofs.Common.{◌≡◌, take, Some, None, vec_items, sym, refl, ap, ◌∙◌, rules, tests}
+use Rattle.std.specs.Option.{option_map}
+use Rattle.std.specs.List.{find}
+use Rattle.std.proofs.lemmas.Iterator.{YieldsList-from_slice, YieldsList-from_take}
+use Rattle.std.proofs.lemmas.Iterator.Search.{find_from_yields_List}
+use Rattle.bounded.specs.Held.{held}
+use Rattle.layers.specs.Memory.{kept, is_for}
+use Rattle.layers.proofs.Finding.{recalled_by_entry}
 use Rattle.layers.proofs.table.Table.recall.Goals as goal
 
-pub loop-i-init : goal.loop-i-init
-loop-i-init c = (refl, refl)
-
-pub returns-then-holds : goal.returns-then-holds
-returns-then-holds c =
-    let entries = c.args.self.now.entries in
-    let e = c.index-entry.result.now in
-    let inside : c.loop-i.i < length (vec_items entries) = omega (arith, entries.ok.0, c.len.ensures, c.min-i-end.ensures, c.loop-i-test.true) in
-    let early : c.loop-i.i < c.args.self.now.used = omega (arith, c.min-i-end.ensures, c.loop-i-test.true) in
-    ((kept e).rows, found_here c.args.marks.now c.args.inputs.now (vec_items entries) c.loop-i.i e inside c.index-entry.ensures c.loop-i.invariant.0 c.args.self.now.used early (sym c.holds.ensures ∙ c.if-holds.true), c.write.ensures.count, subst (λ z. Writes (kept e).rows z c.write.new.memory) c.loop-i.invariant.1 c.write.ensures.written)
-
-pub loop-i-preserved : goal.loop-i-preserved
-loop-i-preserved c =
-    let entries = c.args.self.now.entries in
-    let inside : c.loop-i.i < length (vec_items entries) = omega (arith, entries.ok.0, c.len.ensures, c.min-i-end.ensures, c.loop-i-test.true) in
-    (none_yet c.args.marks.now c.args.inputs.now (vec_items entries) c.loop-i.i c.index-entry.result.now inside c.index-entry.ensures c.loop-i.invariant.0 (sym c.holds.ensures ∙ c.if-holds.false), c.loop-i.invariant.1)
+pub returns-in_err-entry : goal.returns-in_err-entry
+returns-in_err-entry c =
+    let marks = held c.args.asked.now.marks in
+    let inputs = held c.args.asked.now.inputs in
+    let entries = vec_items c.args.self.now.entries in
+    let filled = take c.args.self.now.used entries in
+    let found : option_map (λ e. e.now) c.find.result ≡ find (λ e. is_for (kept e) marks inputs) filled = find_from_yields_List (λ e. is_for (kept e) marks inputs) _ _ c.find.result c.find.ensures.ran (YieldsList-from_take c.args.self.now.used (YieldsList-from_slice entries (cc)) c.take-filled.ensures.count) (λ x b q k. search (rules, tests)) in
+    let none : find (λ e. is_for (kept e) marks inputs) filled ≡ None = sym found ∙ ap (option_map (λ e. e.now)) c.in_err-entry.was in
+    rw c.from_residual.ensures (recalled_by_entry marks inputs filled ∙ ap (option_map (λ e. (kept e).rows)) none, refl)
 
 pub returns : goal.returns
 returns c =
-    let entries = c.args.self.now.entries in
-    let used = c.args.self.now.used in
-    let end : c.loop-i.i ≡ c.min-i-end.result = omega (arith, c.loop-i.auto.i-end, c.loop-i-test.false) in
-    let all : take c.loop-i.i (vec_items entries) ≡ take used (vec_items entries) = ap (λ z. take z (vec_items entries)) (end ∙ c.min-i-end.ensures) ∙ take_min used c.len.result (vec_items entries) (c.len.ensures ∙ entries.ok.0) in
-    (ap (λ z. recalled (map kept z) c.args.marks.now c.args.inputs.now) (sym all) ∙ c.loop-i.invariant.0, c.loop-i.invariant.1)
+    let marks = held c.args.asked.now.marks in
+    let inputs = held c.args.asked.now.inputs in
+    let entries = vec_items c.args.self.now.entries in
+    let filled = take c.args.self.now.used entries in
+    let entry = c.in_ok-entry.entry.now in
+    let found : option_map (λ e. e.now) c.find.result ≡ find (λ e. is_for (kept e) marks inputs) filled = find_from_yields_List (λ e. is_for (kept e) marks inputs) _ _ c.find.result c.find.ensures.ran (YieldsList-from_take c.args.self.now.used (YieldsList-from_slice entries (cc)) c.take-filled.ensures.count) (λ x b q k. search (rules, tests)) in
+    let some : find (λ e. is_for (kept e) marks inputs) filled ≡ Some entry = sym found ∙ ap (option_map (λ e. e.now)) c.in_ok-entry.was in
+    ((kept entry).rows, recalled_by_entry marks inputs filled ∙ ap (option_map (λ e. (kept e).rows)) some, c.write.ensures.count, c.write.ensures.written)

@@ -1,13 +1,8 @@
--- Rows that stand one after another in a list of values.
-use Rattle.std.specs.Prelude.{ℕ, zero, suc, Bool, true, ◌&&◌, List, [], ◌∷◌, length, take, drop, nat_le}
+-- Rows that an entry may hold.
+use Rattle.std.specs.Prelude.{ℕ, Bool, true, ◌&&◌, List, [], ◌∷◌, length, nat_le}
 use Rattle.source.specs.declared.mark.Mark.{Mark}
 use Rattle.source.specs.Rows.{ascending}
 use Rattle.source.specs.Marks.{matches, all_whole}
-
--- so many rows of so many columns, from the start of the values
-abbrev pub rows_in : ℕ → ℕ → List ℕ → List (List ℕ)
-rows_in columns zero values = []
-rows_in columns (suc count) values = take columns values ∷ rows_in columns count (drop columns values)
 
 -- each row holds the inputs
 abbrev pub all_match : List Mark → List ℕ → List (List ℕ) → Bool
