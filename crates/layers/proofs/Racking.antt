@@ -23,7 +23,7 @@ refused_by_next None i inputs room fault h = let e : absent room ≡ fault = cc 
 refused_by_next (Some m) i inputs room fault h = go (refusal m inputs room) h
   where
     go : (o : Option Fault) → option_map (from_source i) o ≡ Some fault → option_map (from_source (suc i)) o ≡ Some (next_source fault)
-    go None e = let z : ◌≡◌ {A = ℕ} 0 1 = cc in absurd (omega arith)
+    go None e = cc
     go (Some f) e = let q : from_source i f ≡ fault = cc in ap Some (sym (numbered_on i f) ∙ ap next_source q)
 
 refused_beside : (m : Meaning) (ms ms' : List Meaning) (source : ℕ) (inputs memory memory' : List ℕ) (fault : Fault) → 0 < source → RefusedAt (source - 1) ms ms' inputs memory memory' fault → RefusedAt source (m ∷ ms) (m ∷ ms') inputs memory memory' (next_source fault)

@@ -55,7 +55,7 @@ pub table_sound : (t : Table) → AllSound (kept_all t)
 table_sound t = entries_sound (take t.used (vec_items t.entries))
 
 recalled_sound : (es : List Remembered) (marks : List Mark) (inputs : List ℕ) (rows : List (List ℕ)) → AllSound es → recalled es marks inputs ≡ Some rows → Sound marks inputs rows
-recalled_sound [] marks inputs rows a h = let z : ◌≡◌ {A = ℕ} 0 1 = cc in absurd (omega arith)
+recalled_sound [] marks inputs rows a h = cc
 recalled_sound (e ∷ es) marks inputs rows a h = go (is_for e marks inputs) refl h (recalled_sound es marks inputs rows a.1)
   where
     go : (b : Bool) → is_for e marks inputs ≡ b → cond b (Some e.rows) (recalled es marks inputs) ≡ Some rows → (recalled es marks inputs ≡ Some rows → Sound marks inputs rows) → Sound marks inputs rows
@@ -154,15 +154,15 @@ module _ (m m' : Meaning) (inputs memory memory' : List ℕ) (count : ℕ) (w : 
   bar_clear = go (misuse m.marks inputs (length memory)) (m.bars inputs) b.granted
     where
       go : (o : Option Fault) (x : Bar) → earlier o (bar_fault x) ≡ None → x ≡ clear
-      go (Some f) x h = let z : ◌≡◌ {A = ℕ} 0 1 = cc in absurd (omega arith)
+      go (Some f) x h = cc
       go None clear h = refl
-      go None (barred r layer) h = let z : ◌≡◌ {A = ℕ} 0 1 = cc in absurd (omega arith)
+      go None (barred r layer) h = cc
 
   not_misused : misuse m.marks inputs (length memory) ≡ None
   not_misused = go (misuse m.marks inputs (length memory)) b.granted
     where
       go : (o : Option Fault) → earlier o (bar_fault (m.bars inputs)) ≡ None → o ≡ None
-      go (Some f) h = let z : ◌≡◌ {A = ℕ} 0 1 = cc in absurd (omega arith)
+      go (Some f) h = cc
       go None h = refl
 
   -- what is remembered after the call: as before, but perhaps this answer for these inputs

@@ -1,6 +1,5 @@
 -- Looking remembered rows up, entry by entry.
 use Rattle.std.specs.Prelude.{◌≡◌, ℕ, Bool, true, false, cond, List, [], ◌∷◌, ◌++◌, Some, None, refl}
-use Rattle.std.proofs.Common.{arith}
 use Rattle.source.specs.declared.mark.Mark.{Mark}
 use Rattle.layers.specs.Memory.{Remembered, is_for, recalled}
 
@@ -10,11 +9,11 @@ module _ (marks : List Mark) (inputs : List ℕ) where
   recalled_later (x ∷ xs) ys h = go (is_for x marks inputs) h (recalled_later xs ys)
     where
       go : (b : Bool) → cond b (Some x.rows) (recalled xs marks inputs) ≡ None → (recalled xs marks inputs ≡ None → recalled (xs ++ ys) marks inputs ≡ recalled ys marks inputs) → cond b (Some x.rows) (recalled (xs ++ ys) marks inputs) ≡ recalled ys marks inputs
-      go true h ih = let z : ◌≡◌ {A = ℕ} 0 1 = cc in absurd (omega arith)
+      go true h ih = cc
       go false h ih = ih h
 
   pub recalled_earlier : (xs ys : List Remembered) (rows : List (List ℕ)) → recalled xs marks inputs ≡ Some rows → recalled (xs ++ ys) marks inputs ≡ Some rows
-  recalled_earlier [] ys rows h = let z : ◌≡◌ {A = ℕ} 0 1 = cc in absurd (omega arith)
+  recalled_earlier [] ys rows h = cc
   recalled_earlier (x ∷ xs) ys rows h = go (is_for x marks inputs) h (recalled_earlier xs ys rows)
     where
       go : (b : Bool) → cond b (Some x.rows) (recalled xs marks inputs) ≡ Some rows → (recalled xs marks inputs ≡ Some rows → recalled (xs ++ ys) marks inputs ≡ Some rows) → cond b (Some x.rows) (recalled (xs ++ ys) marks inputs) ≡ Some rows

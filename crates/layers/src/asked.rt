@@ -28,7 +28,8 @@ impl Asked {
         }
     }
 
-    // Whether the same inputs ask under the same marks.
+    // Whether the same inputs ask under the same marks. This is no derived `==`, which would compare
+    // what stands in the unused places of the lists, too.
     pub(crate) fn is_same(&self, other: &Asked) -> bool
         ensures { result ≡ (same_marks (held self.now.marks) (held other.now.marks) && same (held self.now.inputs) (held other.now.inputs)) }
     {

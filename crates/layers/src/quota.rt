@@ -2,6 +2,7 @@ ghost use Rattle.std.specs.Prelude.{◌≡◌, ◌+◌, ◌-◌, ◌≤◌, min,
 ghost use Rattle.source.specs.Calls.{Called, PassedOn};
 ghost use Rattle.layers.specs.Limits.{limited};
 ghost use Rattle.layers.specs.Limiting;
+ghost use Rattle.layers.specs.declared.quota.TheConstants.{UNITS_MAX};
 
 use faults::{Fault, Refusal};
 use source::{Mark, Source, admit};
@@ -14,14 +15,14 @@ pub const UNITS_MAX: u32 = 1000000;
 pub struct Quota<S: Source> {
     below: S,
     units: u32,
-    ghost few: { units ≤ 1000000 },
+    ghost few: { units ≤ UNITS_MAX },
 }
 
 impl<S: Source> Quota<S> {
     // Of the units given, those past the most are lost.
     pub fn new(below: S, units: u32) -> Quota<S>
         ensures below { result.below ≡ below }
-        ensures units { result.units ≡ min units 1000000 }
+        ensures units { result.units ≡ min units UNITS_MAX }
     {
         let units = units.min(UNITS_MAX);
         Quota { below, units }
@@ -29,7 +30,7 @@ impl<S: Source> Quota<S> {
 
     // Adds units, and returns how many were added: those past the most are lost.
     pub fn add(&mut self, units: u32) -> u32
-        ensures value { result ≡ min units (1000000 - self.old.units) }
+        ensures value { result ≡ min units (UNITS_MAX - self.old.units) }
         ensures units { self.new.units ≡ self.old.units + result }
         ensures below { self.new.below ≡ self.old.below }
     {

@@ -3,7 +3,8 @@ ghost use Rattle.std.specs.Prelude.{[], ◌∷◌};
 use faults::{Fault, Refusal};
 use source::{ANSWER_ROOM, Mark, Rack, Source};
 
-// A rack of one source.
+// A rack of one source. It is not `Beside` a rack of none, since its users make it of the source
+// alone.
 #[derive(Drop)]
 pub struct One<S: Source>(pub S);
 

@@ -15,7 +15,8 @@ use std::alloc::{AllocError, Global};
 // How many entries a table has.
 const ENTRIES: usize = 16;
 
-// Entries, of which the first `used` are filled.
+// Entries, of which the first `used` are filled. They are made beforehand and lent to be filled, so
+// that no call allocates.
 #[derive(Drop)]
 pub struct Table {
     pub entries: Vec<Entry>,
