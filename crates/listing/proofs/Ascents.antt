@@ -1,42 +1,35 @@
 -- A row put among ascending rows where it belongs.
-use Rattle.std.proofs.Common.{◌≡◌, ℕ, zero, suc, ◌<◌, ◌≤◌, Bool, true, false, ◌||◌, eqb, ◌⊎◌, List, [], ◌∷◌, ◌++◌, length, get_or, take, drop, sym, refl, ap, ◌∙◌, subst, inl, inr, arith}
-use Rattle.std.proofs.lemmas.Bool.{and_parts, and_from, or_cases, or_left, false≢true, cases_order, eq-eqb}
+use Rattle.std.proofs.Common.{◌≡◌, ℕ, zero, suc, ◌<◌, ◌≤◌, Bool, true, false, ◌||◌, ◌⊎◌, List, [], ◌∷◌, length, get_or, drop, sym, refl, ap, ◌∙◌, subst, inl, inr, arith}
+use Rattle.std.specs.List.{insert}
+use Rattle.std.proofs.lemmas.Bool.{and_parts, and_from, or_cases, or_left, false≢true, false_from_ne_true}
 use Rattle.source.specs.Rows.{same, before, is_in, leads, ascending}
 use Rattle.listing.specs.Answers.{Belongs}
-use Rattle.source.proofs.Rows.{same_eq, eq_same, before_irrefl, before_trans, before_at_head, before_in_tail, in_tail, ascending_tail, head_before_all}
-
--- the rows with one more at a place
-abbrev pub with_row : List (List ℕ) → ℕ → List ℕ → List (List ℕ)
-with_row rows place row = take place rows ++ row ∷ drop place rows
-
-pub not_true : (b : Bool) → (b ≡ true → ⊥) → b ≡ false
-not_true true h = absurd (h refl)
-not_true false h = refl
+use Rattle.source.proofs.Rows.{same_eq, eq_same, before_irrefl, before_trans, in_tail, ascending_tail, head_before_all}
 
 or_swap : (a b c : Bool) → (a || (b || c)) ≡ (b || (a || c))
 or_swap true true c = refl
 or_swap true false c = refl
 or_swap false b c = refl
 
-pub in_with_row : (place : ℕ) (rows : List (List ℕ)) (row other : List ℕ) → is_in other (with_row rows place row) ≡ (same other row || is_in other rows)
-in_with_row zero rows row other = refl
-in_with_row (suc place) [] row other = refl
-in_with_row (suc place) (r ∷ rows) row other =
-    ap (λ b. same other r || b) (in_with_row place rows row other) ∙ or_swap (same other r) (same other row) (is_in other rows)
+pub in_inserted : (place : ℕ) (rows : List (List ℕ)) (row other : List ℕ) → is_in other (insert rows place row) ≡ (same other row || is_in other rows)
+in_inserted zero rows row other = refl
+in_inserted (suc place) [] row other = refl
+in_inserted (suc place) (r ∷ rows) row other =
+    ap (λ b. same other r || b) (in_inserted place rows row other) ∙ or_swap (same other r) (same other row) (is_in other rows)
 
-leads_with_row : (place : ℕ) (r : List ℕ) (rows : List (List ℕ)) (row : List ℕ) → place ≤ length rows → leads r rows ≡ true → before r row ≡ true → leads r (with_row rows place row) ≡ true
-leads_with_row zero r rows row inside l b = b
-leads_with_row (suc place) r [] row inside l b = absurd (omega arith)
-leads_with_row (suc place) r (q ∷ rows) row inside l b = l
+leads_inserted : (place : ℕ) (r : List ℕ) (rows : List (List ℕ)) (row : List ℕ) → place ≤ length rows → leads r rows ≡ true → before r row ≡ true → leads r (insert rows place row) ≡ true
+leads_inserted zero r rows row inside l b = b
+leads_inserted (suc place) r [] row inside l b = absurd (omega arith)
+leads_inserted (suc place) r (q ∷ rows) row inside l b = l
 
-pub ascending_with_row : (place : ℕ) (rows : List (List ℕ)) (row : List ℕ) → place ≤ length rows → ascending rows ≡ true → ((k : ℕ) → k < place → before (get_or rows k []) row ≡ true) → leads row (drop place rows) ≡ true → ascending (with_row rows place row) ≡ true
-ascending_with_row zero rows row inside asc above below = and_from (leads row rows) (ascending rows) below asc
-ascending_with_row (suc place) [] row inside asc above below = absurd (omega arith)
-ascending_with_row (suc place) (r ∷ rows) row inside asc above below =
+pub ascending_inserted : (place : ℕ) (rows : List (List ℕ)) (row : List ℕ) → place ≤ length rows → ascending rows ≡ true → ((k : ℕ) → k < place → before (get_or rows k []) row ≡ true) → leads row (drop place rows) ≡ true → ascending (insert rows place row) ≡ true
+ascending_inserted zero rows row inside asc above below = and_from (leads row rows) (ascending rows) below asc
+ascending_inserted (suc place) [] row inside asc above below = absurd (omega arith)
+ascending_inserted (suc place) (r ∷ rows) row inside asc above below =
     let parts = and_parts (leads r rows) (ascending rows) asc in
-    and_from (leads r (with_row rows place row)) (ascending (with_row rows place row))
-    (leads_with_row place r rows row (omega arith) parts.0 (above 0 (omega arith)))
-    (ascending_with_row place rows row (omega arith) parts.1 (λ k h. above (suc k) (omega arith)) below)
+    and_from (leads r (insert rows place row)) (ascending (insert rows place row))
+    (leads_inserted place r rows row (omega arith) parts.0 (above 0 (omega arith)))
+    (ascending_inserted place rows row (omega arith) parts.1 (λ k h. above (suc k) (omega arith)) below)
 
 not_from_head : (rows : List (List ℕ)) (row : List ℕ) → ascending rows ≡ true → leads row rows ≡ true → is_in row rows ≡ true → ⊥
 not_from_head [] row asc l i = false≢true i
@@ -48,7 +41,7 @@ not_from_head (r ∷ rows) row asc l i = go (or_cases (same row r) (is_in row ro
 
 -- a row that belongs at a place is none of the rows
 pub absent : (place : ℕ) (rows : List (List ℕ)) (row : List ℕ) → ascending rows ≡ true → Belongs rows row place → is_in row rows ≡ false
-absent place rows row asc b = not_true (is_in row rows) (elsewhere place rows asc b.above b.below)
+absent place rows row asc b = false_from_ne_true (is_in row rows) (elsewhere place rows asc b.above b.below)
   where
     elsewhere : (place : ℕ) (rows : List (List ℕ)) → ascending rows ≡ true → ((k : ℕ) → k < place → before (get_or rows k []) row ≡ true) → leads row (drop place rows) ≡ true → is_in row rows ≡ true → ⊥
     elsewhere zero rows asc above below i = not_from_head rows row asc below i
@@ -69,15 +62,3 @@ leads_at [] zero row f = refl
 leads_at [] (suc k) row f = refl
 leads_at (r ∷ rows) zero row f = f (omega arith)
 leads_at (r ∷ rows) (suc k) row f = leads_at rows k row (λ h. f (omega arith))
-
--- of two rows of one length, one is the other or comes before it
-pub one_before : (xs ys : List ℕ) → length xs ≡ length ys → (same xs ys ≡ true → ⊥) → (before ys xs ≡ true → ⊥) → before xs ys ≡ true
-one_before [] [] long apart not_after = absurd (apart refl)
-one_before [] (y ∷ ys) long apart not_after = absurd (omega arith)
-one_before (x ∷ xs) [] long apart not_after = absurd (omega arith)
-one_before (x ∷ xs) (y ∷ ys) long apart not_after = go (cases_order x y) (one_before xs ys (omega arith))
-  where
-    go : (x ≡ y) ⊎ ((x < y) ⊎ (y < x)) → ((same xs ys ≡ true → ⊥) → (before ys xs ≡ true → ⊥) → before xs ys ≡ true) → before (x ∷ xs) (y ∷ ys) ≡ true
-    go (inl e) tails = before_in_tail x y xs ys e (tails (λ s. apart (and_from (eqb x y) (same xs ys) (eq-eqb x y e) s)) (λ b. not_after (before_in_tail y x ys xs (sym e) b)))
-    go (inr (inl l)) tails = before_at_head x y xs ys l
-    go (inr (inr l)) tails = absurd (not_after (before_at_head y x ys xs l))

@@ -1,14 +1,16 @@
 -- Giving answers to a list, one after another.
-use Rattle.std.proofs.Common.{◌≡◌, ℕ, zero, suc, ◌+◌, ◌-◌, ◌*◌, ◌<◌, ◌≤◌, true, false, ◌⊎◌, List, [], ◌∷◌, length, get_or, take, drop, sym, refl, ap, ◌∙◌, subst, inl, inr, arith, length-drop}
+use Rattle.std.proofs.Common.{◌≡◌, ℕ, zero, suc, ◌+◌, ◌-◌, ◌*◌, ◌<◌, ◌≤◌, true, false, ◌⊎◌, List, [], ◌∷◌, length, get_or, drop, sym, refl, ap, ◌∙◌, subst, inl, inr, arith}
 use Rattle.std.proofs.lemmas.Bool.{or_cases, or_left, or_right, true≢false, cases_Bool}
-use Rattle.std.proofs.lemmas.List.{drop-drop, length-take-le}
+use Rattle.std.specs.List.{insert}
+use Rattle.std.proofs.lemmas.List.{drop-drop}
 use Rattle.std.proofs.lemmas.List.Edits.{length-insert}
 use Rattle.source.specs.Rows.{same, before, is_in, leads, ascending}
 use Rattle.source.proofs.Rows.{same_eq, eq_same, ascending_tail}
 use Rattle.source.proofs.Chunks.{length_rows_in}
 use Rattle.listing.specs.Answers.{answers, Listing, listed, Added, listed_before, listed_now, no_place}
 use Rattle.listing.specs.Gathering.{TooMany, Gathered}
-use Rattle.listing.proofs.Ascents.{with_row, in_with_row, ascending_with_row, one_before}
+use Rattle.listing.proofs.Ascents.{in_inserted, ascending_inserted}
+use Rattle.listing.proofs.Comparing.{one_before}
 
 -- nothing was given
 pub none_gathered : (l : Listing) (P : List ℕ → Type 0) → ((row : List ℕ) → P row → ⊥) → Gathered l l P
@@ -80,28 +82,16 @@ module _ (a b c : Listing) (P Q R : List ℕ → Type 0) (f : (row : List ℕ) �
     beyond = subst (λ (n : ℕ). drop (4 * n) c.memory ≡ drop (4 * n) b.memory) p.places q.beyond ∙ p.beyond;
   }
 
--- the rows in memory that is long enough have four numbers
-abbrev AllLong : ℕ → List (List ℕ) → Type 0
-AllLong n [] = Unit {0}
-AllLong n (r ∷ rs) = (length r ≡ n) × AllLong n rs
-
-all_four : (count : ℕ) (memory : List ℕ) → 4 * count ≤ length memory → AllLong 4 (answers count memory)
-all_four zero memory h = tt
-all_four (suc count) memory h =
-    let long : length (take 4 memory) ≡ 4 = length-take-le 4 memory (omega arith) in
-    let rest = length-drop 4 memory in
-    (long, all_four count (drop 4 memory) (omega arith))
-
--- a row that is not among ascending rows of its length belongs somewhere between them
+-- a row that is not among ascending rows belongs somewhere between them
 record Place (rows : List (List ℕ)) (row : List ℕ) : Type 0 where
   at : ℕ
   inside : at ≤ length rows
   above : (k : ℕ) → k < at → before (get_or rows k []) row ≡ true
   below : leads row (drop at rows) ≡ true
 
-find_place : (rows : List (List ℕ)) (row : List ℕ) → ascending rows ≡ true → (is_in row rows ≡ true → ⊥) → AllLong (length row) rows → Place rows row
-find_place [] row asc out long = record { at = 0; inside = omega arith; above = λ k h. absurd (omega arith); below = refl }
-find_place (r ∷ rs) row asc out long = go (cases_Bool (before row r)) (find_place rs row (ascending_tail r rs asc) (λ i. out (or_right (same row r) (is_in row rs) i)) long.1)
+find_place : (rows : List (List ℕ)) (row : List ℕ) → ascending rows ≡ true → (is_in row rows ≡ true → ⊥) → Place rows row
+find_place [] row asc out = record { at = 0; inside = omega arith; above = λ k h. absurd (omega arith); below = refl }
+find_place (r ∷ rs) row asc out = go (cases_Bool (before row r)) (find_place rs row (ascending_tail r rs asc) (λ i. out (or_right (same row r) (is_in row rs) i)))
   where
     next : before r row ≡ true → (p : Place rs row) → (k : ℕ) → k < suc p.at → before (get_or (r ∷ rs) k []) row ≡ true
     next b p zero h = b
@@ -110,12 +100,12 @@ find_place (r ∷ rs) row asc out long = go (cases_Bool (before row r)) (find_pl
     go : (before row r ≡ true) ⊎ (before row r ≡ false) → Place rs row → Place (r ∷ rs) row
     go (inl b) p = record { at = 0; inside = omega arith; above = λ k h. absurd (omega arith); below = b }
     go (inr n) p =
-        let b : before r row ≡ true = one_before r row long.0 (λ s. out (or_left (same row r) (is_in row rs) (eq_same row r (sym (same_eq r row s))))) (λ c. true≢false (sym c ∙ n)) in
+        let b : before r row ≡ true = one_before r row (λ s. out (or_left (same row r) (is_in row rs) (eq_same row r (sym (same_eq r row s))))) (λ c. true≢false (sym c ∙ n)) in
         record { at = suc p.at; inside = (let i = p.inside in omega arith); above = next b p; below = p.below }
 
 -- one answer was given
-pub one_gathered : (answer : List ℕ) (old new : Listing) → length answer ≡ 4 → 4 * old.count ≤ length old.memory → new.count ≤ old.places → ascending (listed old) ≡ true → Added answer old new → Gathered old new (λ row. row ≡ answer)
-one_gathered answer old new four room within asc (listed_before there same) =
+pub one_gathered : (answer : List ℕ) (old new : Listing) → new.count ≤ old.places → ascending (listed old) ≡ true → Added answer old new → Gathered old new (λ row. row ≡ answer)
+one_gathered answer old new within asc (listed_before there same) =
     subst (λ (l : Listing). Gathered old l (λ row. row ≡ answer)) (sym same) (record {
       places = refl;
       more = omega arith;
@@ -127,7 +117,7 @@ one_gathered answer old new four room within asc (listed_before there same) =
       behind = refl;
       beyond = refl;
     })
-one_gathered answer old new four room within asc (listed_now absent same_places one_more members behind same_crowded) = record {
+one_gathered answer old new within asc (listed_now absent same_places one_more members behind same_crowded) = record {
   places = same_places;
   more = omega arith;
   kept = λ row h. members row ∙ or_right (same row answer) (is_in row (listed old)) h;
@@ -138,7 +128,7 @@ one_gathered answer old new four room within asc (listed_now absent same_places 
   behind = behind;
   beyond = further new.count old.places new.memory old.memory within behind;
 }
-one_gathered answer old new four room within asc (no_place absent full same_places same_memory same_count now_crowded) = record {
+one_gathered answer old new within asc (no_place absent full same_places same_memory same_count now_crowded) = record {
   places = same_places;
   more = omega arith;
   kept = λ row h. subst (λ (l : List (List ℕ)). is_in row l ≡ true) (sym rows_same) h;
@@ -154,12 +144,12 @@ one_gathered answer old new four room within asc (no_place absent full same_plac
     rows_same = ap (λ (n : ℕ). answers n new.memory) same_count ∙ ap (answers old.count) same_memory
 
     place : Place (listed old) answer
-    place = find_place (listed old) answer asc (λ i. true≢false (sym i ∙ absent)) (subst (λ (n : ℕ). AllLong n (listed old)) (sym four) (all_four old.count old.memory room))
+    place = find_place (listed old) answer asc (λ i. true≢false (sym i ∙ absent))
 
     one_too_many : TooMany old.places (listed old) (λ row. row ≡ answer)
     one_too_many = record {
-      rows = with_row (listed old) place.at answer;
+      rows = insert (listed old) place.at answer;
       many = length-insert (listed old) place.at answer place.inside ∙ ap (λ (n : ℕ). n + 1) (length_rows_in 4 old.count old.memory ∙ full);
-      ascends = ascending_with_row place.at (listed old) answer place.inside asc place.above place.below;
-      each = λ row x. elim (or_cases (same row answer) (is_in row (listed old)) (sym (in_with_row place.at (listed old) answer row) ∙ x)) [ inl e ↦ inr (same_eq row answer e) | inr m ↦ inl m ];
+      ascends = ascending_inserted place.at (listed old) answer place.inside asc place.above place.below;
+      each = λ row x. elim (or_cases (same row answer) (is_in row (listed old)) (sym (in_inserted place.at (listed old) answer row) ∙ x)) [ inl e ↦ inr (same_eq row answer e) | inr m ↦ inl m ];
     }

@@ -2,3 +2,4 @@ pub mod Placing
 pub mod Ascents
 pub mod Gathering
 pub mod Searching
+pub mod Comparing

@@ -3,8 +3,8 @@ use Rattle.std.proofs.Common.{◌≡◌, ℕ, zero, suc, ◌+◌, ◌-◌, ◌*�
 use lib.Seq.{paste}
 use Rattle.std.proofs.lemmas.List.{take_at, drop_at, drop-drop, take-take, take-append-le, length-take-le}
 use borrow.Rule.Slice.PartMut.{put_mid}
+use Rattle.std.specs.List.{insert}
 use Rattle.listing.specs.Answers.{answers}
-use Rattle.listing.proofs.Ascents.{with_row}
 
 -- what a move by four and a write at the gap leave
 pub moved : (m now ys answer : List ℕ) (a e : ℕ) → a ≤ e → e + 4 ≤ length m → now ≡ paste m (a + 4) (drop a m) (e - a) → ys ≡ answer → put_mid a (a + 4 - a) now ys ≡ take a m ++ (answer ++ (take (e - a) (drop a m) ++ drop (e + 4) m))
@@ -39,7 +39,7 @@ same_answers (suc count) (a ∷ b ∷ d ∷ g ∷ m) rest h =
 abbrev pub with_answer : List ℕ → ℕ → ℕ → List ℕ → List ℕ
 with_answer m count place answer = take (4 * place) m ++ (answer ++ (take (4 * count - 4 * place) (drop (4 * place) m) ++ drop (4 * count + 4) m))
 
-pub answers_with : (place count : ℕ) (m answer : List ℕ) → length answer ≡ 4 → place ≤ count → 4 * count + 4 ≤ length m → answers (suc count) (with_answer m count place answer) ≡ with_row (answers count m) place answer
+pub answers_with : (place count : ℕ) (m answer : List ℕ) → length answer ≡ 4 → place ≤ count → 4 * count + 4 ≤ length m → answers (suc count) (with_answer m count place answer) ≡ insert (answers count m) place answer
 answers_with zero count m answer four le room =
     let first : take 4 (answer ++ (take (4 * count) m ++ drop (4 * count + 4) m)) ≡ answer = take_at answer _ 4 four in
     let rest : drop 4 (answer ++ (take (4 * count) m ++ drop (4 * count + 4) m)) ≡ take (4 * count) m ++ drop (4 * count + 4) m = drop_at answer _ 4 four in
@@ -64,7 +64,7 @@ answers_with (suc place) (suc count) (a ∷ b ∷ d ∷ g ∷ m) answer four le 
     one ∙ (two ∙ (three ∙ ap (λ (l : List (List ℕ)). (a ∷ b ∷ d ∷ g ∷ []) ∷ l) (answers_with place count m answer four (omega arith) (omega arith))))
 
 module _ (m answer left : List ℕ) (count place : ℕ) (four : length answer ≡ 4) (le : place ≤ count) (room : 4 * count + 4 ≤ length m) (is : left ≡ with_answer m count place answer) where
-  pub put_answers : answers (count + 1) left ≡ with_row (answers count m) place answer
+  pub put_answers : answers (count + 1) left ≡ insert (answers count m) place answer
   put_answers =
       let one : count + 1 ≡ suc count = omega arith in
       ap (λ (n : ℕ). answers n left) one ∙ (ap (answers (suc count)) is ∙ answers_with place count m answer four le room)

@@ -4,31 +4,20 @@ use Rattle.std.specs.Simd.{first_chunks}
 use Rattle.std.specs.Ordering.{is_lt, is_eq, is_gt, nat_cmp}
 use Rattle.std.specs.Cmp.Lexicographic.{slice_cmp}
 use Rattle.std.specs.List.Sorted.{IsBinarySearchResult, IsSearchInRange, IsSortedBy}
-use Rattle.std.proofs.lemmas.Bool.{and_parts}
-use Rattle.std.proofs.lemmas.Bool.Decides.{nat_tests}
-use Rattle.std.proofs.lemmas.Cmp.{same_from_slice_cmp, nat_list_cmp_total}
+use Rattle.std.proofs.lemmas.Bool.{and_parts, false_from_ne_true}
+use Rattle.std.proofs.lemmas.Cmp.{nat_list_cmp_total}
 use Rattle.std.proofs.lemmas.List.Sorted.{searchable_from_sorted}
-use Rattle.source.specs.Rows.{same, before, ascending, rows_in}
+use Rattle.source.specs.Rows.{before, ascending, rows_in}
 use Rattle.source.proofs.Rows.{same_eq, before_irrefl, before_trans, ascending_tail}
 use Rattle.listing.specs.Answers.{Spotted}
-use Rattle.listing.proofs.Ascents.{in_at, leads_at, not_true}
+use Rattle.listing.proofs.Ascents.{in_at, leads_at}
+use Rattle.listing.proofs.Comparing.{is_before, is_behind, is_same}
 
 -- the first cells of a memory are its first rows
 pub first_cells : (columns count many : ℕ) (memory : List ℕ) → count ≤ many → take count (first_chunks columns many memory) ≡ rows_in columns count memory
 first_cells columns zero many memory le = refl
 first_cells columns (suc count) zero memory le = absurd (omega arith)
 first_cells columns (suc count) (suc many) memory le = ap (λ (rows : List (List ℕ)). take columns memory ∷ rows) (first_cells columns count many (drop columns memory) (omega arith))
-
--- Rows as the library compares them.
-
-is_before : (xs ys : List ℕ) → is_lt (slice_cmp nat_cmp xs ys) ≡ before xs ys
-is_before xs ys = same_from_slice_cmp nat_cmp is_lt before refl (λ _ _. refl) (λ _ _. refl) (λ x y xs ys o h. grind (arith, nat_tests)) xs ys _ refl
-
-is_behind : (xs ys : List ℕ) → is_gt (slice_cmp nat_cmp xs ys) ≡ before ys xs
-is_behind xs ys = same_from_slice_cmp nat_cmp is_gt (λ xs ys. before ys xs) refl (λ _ _. refl) (λ _ _. refl) (λ x y xs ys o h. grind (arith, nat_tests)) xs ys _ refl
-
-is_same : (xs ys : List ℕ) → is_eq (slice_cmp nat_cmp xs ys) ≡ same xs ys
-is_same xs ys = same_from_slice_cmp nat_cmp is_eq same refl (λ _ _. refl) (λ _ _. refl) (λ x y xs ys o h. grind (arith, nat_tests)) xs ys _ refl
 
 next_behind : (rows : List (List ℕ)) → ascending rows ≡ true → (k : ℕ) (d : List ℕ) → suc k < length rows → before (get_or rows k d) (get_or rows (suc k) d) ≡ true
 next_behind [] asc k d h = absurd (omega arith)
@@ -41,7 +30,7 @@ sorted rows asc k d low h =
     let ahead : before (get_or rows k d) (get_or rows (k + 1) d) ≡ true = rw add-one (next_behind rows asc k d (omega arith)) in
     let one = get_or rows k d in
     let next = get_or rows (k + 1) d in
-    is_before next one ∙ not_true (before next one) (λ back. before_irrefl one (before_trans one next one ahead back))
+    is_before next one ∙ false_from_ne_true (before next one) (λ back. before_irrefl one (before_trans one next one ahead back))
 
 pub spotted : (rows : List (List ℕ)) (row : List ℕ) (r : Result ℕ ℕ) → ascending rows ≡ true → IsSearchInRange r (length rows) → IsBinarySearchResult (λ y. slice_cmp nat_cmp y row) rows r → Spotted rows row r
 spotted rows row (Ok k) asc bound found = in_at rows k row bound (same_eq (get_or rows k []) row (sym (is_same (get_or rows k []) row) ∙ ap is_eq (found [])))

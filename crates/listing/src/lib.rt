@@ -3,6 +3,7 @@
 #![tactic(auto)]
 
 ghost use Rattle.std.specs.Prelude.{◌≡◌, ℕ, ◌+◌, ◌-◌, ◌*◌, ◌<◌, ◌≤◌, true, ◌++◌, length, take, drop};
+ghost use Rattle.std.specs.List.{insert as list_insert};
 ghost use Rattle.source.specs.Rows.{ascending};
 ghost use Rattle.listing.specs.Answers.{answers, places_in, cleared, count_listed, listing, Added, Spotted};
 
@@ -50,7 +51,8 @@ fn find_spot(memory: &[u32], count: usize, answer: &[u32; 4]) -> Result<usize, u
 fn put(memory: &mut [u32], count: usize, place: usize, answer: &[u32; 4])
     requires inside { place ≤ count }
     requires room { 4 * count + 4 ≤ length memory.old }
-    ensures value { memory.new ≡ take (4 * place) memory.old ++ (answer.now ++ (take (4 * count - 4 * place) (drop (4 * place) memory.old) ++ drop (4 * count + 4) memory.old)) }
+    ensures listed { answers (count + 1) memory.new ≡ list_insert (answers count memory.old) place answer.now }
+    ensures behind { drop (4 * (count + 1)) memory.new ≡ drop (4 * (count + 1)) memory.old }
 {
     memory.copy_within(4 * place..4 * count, 4 * place + 4);
     memory[4 * place..4 * place + 4].copy_from_slice(answer);

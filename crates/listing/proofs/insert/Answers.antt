@@ -1,9 +1,8 @@
-use Rattle.std.proofs.Common.{◌+◌, ◌*◌, ◌≤◌, length, sym, refl, ap, ◌∙◌, arith}
+use Rattle.std.proofs.Common.{sym, refl, ap, ◌∙◌, arith}
 use Rattle.source.specs.Rows.{is_in, ascending}
 use Rattle.source.proofs.Chunks.{length_rows_in}
 use Rattle.listing.specs.Answers.{answers, no_place, listed_now}
-use Rattle.listing.proofs.Ascents.{absent, in_with_row, ascending_with_row}
-use Rattle.listing.proofs.Placing.{put_answers, put_behind}
+use Rattle.listing.proofs.Ascents.{absent, in_inserted, ascending_inserted}
 use Rattle.listing.proofs.insert.Goals as goal
 
 pub put-requires-clause-inside : goal.put-requires-clause-inside
@@ -14,23 +13,13 @@ returns-in-Err-clause-added c = no_place (absent c.in-Err.field-0 (answers c.arg
 
 pub returns-in-Err-2 : goal.returns-in-Err-2
 returns-in-Err-2 c =
-    let memory = c.args.memory.now in
     let answer = c.args.answer.now in
-    let rows = answers c.args.count memory in
+    let rows = answers c.args.count c.args.memory.now in
     let place = c.in-Err.field-0 in
     let belongs = c.in-Err.ensures.value in
-    let n = length_rows_in 4 c.args.count memory in
-    let inside : place ≤ c.args.count = omega (arith, belongs.inside) in
-    let room : 4 * c.args.count + 4 ≤ length memory = omega (arith, c.requires.room, c.requires.within, c.if-count-places.false) in
-    let listed = put_answers memory answer c.put.new.memory c.args.count place c.told-answer inside room c.put.ensures.value in
+    let listed = c.put.ensures.listed in
     record {
       within = omega (arith, c.requires.within, c.if-count-places.false);
-      ascends = ap ascending listed ∙ ascending_with_row place rows answer belongs.inside c.requires.ascends belongs.above belongs.below;
-      added = listed_now
-          (absent place rows answer c.requires.ascends belongs)
-          refl
-          refl
-          (λ other. ap (is_in other) listed ∙ in_with_row place rows answer other)
-          (put_behind memory answer c.put.new.memory c.args.count place c.told-answer inside room c.put.ensures.value)
-          refl;
+      ascends = ap ascending listed ∙ ascending_inserted place rows answer belongs.inside c.requires.ascends belongs.above belongs.below;
+      added = listed_now (absent place rows answer c.requires.ascends belongs) refl refl (λ other. ap (is_in other) listed ∙ in_inserted place rows answer other) c.put.ensures.behind refl;
     }
