@@ -5,3 +5,4 @@ pub mod Wording
 pub mod Naming
 pub mod Holding
 pub mod Course
+pub mod Leaving

@@ -1,5 +1,5 @@
 -- Names: tests byte by byte, and places in lists of names.
-use Rattle.std.proofs.Common.{◌≡◌, ℕ, zero, suc, ◌+◌, ◌<◌, ◌≤◌, Bool, true, false, cond, ◌&&◌, ◌||◌, ◌⊎◌, List, [], ◌∷◌, ◌++◌, map, length, get_or, drop, Some, None, Decides, Option, sym, refl, ap, ◌∙◌, subst, inl, inr, add-zero, zero-add, arith}
+use Rattle.std.proofs.Common.{◌≡◌, ℕ, zero, suc, ◌+◌, ◌<◌, ◌≤◌, Bool, true, false, cond, ◌||◌, ◌⊎◌, List, [], ◌∷◌, ◌++◌, map, length, get_or, drop, Some, None, Decides, Option, sym, refl, ap, ◌∙◌, subst, inl, inr, add-zero, zero-add, arith}
 use Rattle.std.specs.Option.{option_map}
 use Rattle.std.specs.Str.{bytes_eq}
 use Rattle.std.proofs.lemmas.Slice.Eq.{bytes_eq-Decides}
@@ -7,35 +7,15 @@ use Rattle.std.proofs.lemmas.List.{drop_more, drop_all, get_or-map, length-map, 
 use Rattle.lexing.specs.Tokens.{Token}
 use Rattle.bounded.specs.Held.{held}
 use Rattle.bounded.specs.declared.list.Bounded.{Bounded}
-use Rattle.lexing.specs.Classes.{lower, name_byte, is_lower}
-use Rattle.lexing.specs.declared.class.Class.{Class}
-use Rattle.lexing.specs.declared.class.Class.TheVariants.{Lower, Upper, Digit, Blank, Punctuation, Other}
-use Rattle.lexing.specs.Names.{all, is_name, among, place_of, number_of, with_name, first_seen, numbers, AllAmong}
+use Rattle.lexing.specs.declared.name.Alphabet.TheVariants.{Names, Lower}
+use Rattle.lexing.specs.Names.{is_identifier, is_name, among, place_of, number_of, with_name, first_seen, numbers, AllAmong}
 use Rattle.lexing.proofs.Bools.{which, clash}
 
-pub all_from : (f : ℕ → Bool) (t : List ℕ) (i : ℕ) → i < length t → all f (drop i t) ≡ (f (get_or t i 0) && all f (drop (i + 1) t))
-all_from f t i h = ap (all f) (drop_more t i 0 h)
-
-pub all_done : (f : ℕ → Bool) (t : List ℕ) (i : ℕ) → length t ≤ i → all f (drop i t) ≡ true
-all_done f t i h = ap (all f) (drop_all i t h)
-
-pub no_name : (t : Token) → length t ≡ 0 → false ≡ is_name t
+-- a name is a lower-case letter with the bytes of names behind it
+pub name_identifier : (t : Token) → is_identifier Lower Names t ≡ is_name t
 unfolding is_name
-no_name [] h = refl
-no_name (x ∷ t) h = absurd (omega arith)
-
-pub name_tests : (t : Token) → (length t ≡ 0 → ⊥) → is_name t ≡ (lower (get_or t 0 0) && all name_byte (drop 1 t))
-unfolding is_name
-name_tests [] h = absurd (h refl)
-name_tests (x ∷ t) h = refl
-
-pub not_lower : (k : Class) → (k ≡ Lower → ⊥) → is_lower k ≡ false
-not_lower Lower h = absurd (h refl)
-not_lower Upper h = refl
-not_lower Digit h = refl
-not_lower Blank h = refl
-not_lower Punctuation h = refl
-not_lower Other h = refl
+name_identifier [] = refl
+name_identifier (x ∷ t) = refl
 
 -- equal bytes
 pub same_is : (xs ys : List ℕ) → bytes_eq xs ys ≡ true → xs ≡ ys

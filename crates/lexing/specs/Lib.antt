@@ -1,5 +1,6 @@
 pub mod Classes
 pub mod Tokens
+pub mod Left
 pub mod Names
 pub mod Lists
 pub mod Words

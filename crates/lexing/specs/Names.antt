@@ -1,21 +1,29 @@
 -- Names, and lists of names without repeats.
 use Rattle.std.specs.Prelude.{◌≡◌, ℕ, suc, Bool, true, false, cond, ◌&&◌, ◌||◌, List, [], ◌∷◌, ◌++◌, Some, None, Option}
+use Rattle.std.specs.List.{list_all}
 use Rattle.std.specs.Option.{option_map}
 use Rattle.std.specs.Str.{bytes_eq}
-use Rattle.lexing.specs.Classes.{lower, name_byte, lettered, digit}
+use Rattle.lexing.specs.Classes.{lower, upper, name_byte, lettered, digit}
 use Rattle.lexing.specs.declared.name.Alphabet.{Alphabet}
-use Rattle.lexing.specs.declared.name.Alphabet.TheVariants.{Names, Words, Digits}
+use Rattle.lexing.specs.declared.name.Alphabet.TheVariants.{Names, Words, Digits, Lower, Upper}
 use Rattle.lexing.specs.Tokens.{Token}
 
+-- all bytes pass a test
 abbrev pub all : (ℕ → Bool) → List ℕ → Bool
-all f [] = true
-all f (x ∷ xs) = f x && all f xs
+all f xs = list_all f xs
 
 -- the bytes of an alphabet
 abbrev pub belongs : Alphabet → ℕ → Bool
 belongs Names b = name_byte b
 belongs Words b = lettered b
 belongs Digits b = digit b
+belongs Lower b = lower b
+belongs Upper b = upper b
+
+-- a byte of one alphabet with bytes of another behind it
+abbrev pub is_identifier : Alphabet → Alphabet → Token → Bool
+is_identifier first others [] = false
+is_identifier first others (x ∷ xs) = belongs first x && all (belongs others) xs
 
 -- a lower-case letter with lower-case letters or digits behind it
 unfoldable pub is_name : Token → Bool

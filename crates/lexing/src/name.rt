@@ -1,6 +1,6 @@
 // Names, and lists of names.
 ghost use Rattle.std.specs.Prelude.{◌≡◌, ◌<◌, ◌≤◌, true, map, length, MatchOption};
-ghost use Rattle.lexing.specs.Names.{all, belongs as inside, is_name, place_of};
+ghost use Rattle.lexing.specs.Names.{all, belongs as inside, is_identifier, is_name, place_of};
 ghost use Rattle.bounded.specs.Held.{held};
 ghost use Rattle.lexing.specs.Lists.{names as named, Numbered};
 
@@ -12,34 +12,33 @@ pub const NAME_MAX: usize = 16;
 
 pub type Name = Bounded<u8, 16>;
 
-// Which bytes may stand behind the first byte of a token.
-#[derive(Clone, Copy)]
+// Which bytes may stand at a place of a token.
+#[derive(Clone, Copy, PartialEq, Eq, Debug)]
 pub enum Alphabet {
     // Lower-case letters and digits.
     Names,
     // Letters and digits.
     Words,
     Digits,
+    // Lower-case letters.
+    Lower,
+    // Upper-case letters.
+    Upper,
 }
 
-fn belongs(alphabet: Alphabet, byte: u8) -> bool
-    ensures value { result ≡ inside alphabet byte }
-{
-    match class_of(byte) {
-        Class::Digit => true,
-        Class::Lower => match alphabet {
-            Alphabet::Names => true,
-            Alphabet::Words => true,
-            Alphabet::Digits => false,
-        },
-        Class::Upper => match alphabet {
-            Alphabet::Names => false,
-            Alphabet::Words => true,
-            Alphabet::Digits => false,
-        },
-        Class::Blank => false,
-        Class::Punctuation => false,
-        Class::Other => false,
+impl Alphabet {
+    // Whether a byte is of the alphabet.
+    pub fn has(self, byte: u8) -> bool
+        ensures value { result ≡ inside self byte }
+    {
+        let class = class_of(byte);
+        match self {
+            Alphabet::Names => matches!(class, Class::Lower | Class::Digit),
+            Alphabet::Words => matches!(class, Class::Lower | Class::Upper | Class::Digit),
+            Alphabet::Digits => class == Class::Digit,
+            Alphabet::Lower => class == Class::Lower,
+            Alphabet::Upper => class == Class::Upper,
+        }
     }
 }
 
@@ -47,25 +46,25 @@ fn belongs(alphabet: Alphabet, byte: u8) -> bool
 pub fn all_belong(alphabet: Alphabet, bytes: &[u8]) -> bool
     ensures value { result ≡ all (inside alphabet) bytes.now }
 {
-    for byte in bytes {
-        if !belongs(alphabet, *byte) {
-            return false;
-        }
+    bytes.iter().all(|byte| alphabet.has(*byte))
+}
+
+// Whether a token begins with a byte of one alphabet, and all others are of another.
+pub fn is_identifier(first: Alphabet, others: Alphabet, token: &[u8]) -> bool
+    ensures value { result ≡ is_identifier first others token.now }
+{
+    match token {
+        [] => false,
+        [byte, rest @ ..] => first.has(*byte) && all_belong(others, rest),
     }
-    true
 }
 
 // Whether a token is a name of any length.
+#[tactic(auto, using(crate::proofs::Naming::name_identifier))]
 pub fn is_name(token: &[u8]) -> bool
     ensures value { result ≡ is_name token.now }
 {
-    if token.len() == 0 {
-        return false;
-    }
-    match class_of(token[0]) {
-        Class::Lower => all_belong(Alphabet::Names, &token[1..]),
-        _ => false,
-    }
+    is_identifier(Alphabet::Lower, Alphabet::Names, token)
 }
 
 // The bytes of a token as a name, unless they are too many.

@@ -1,7 +1,7 @@
 // Cuts a text into tokens.
 ghost use Rattle.std.specs.Prelude.{◌≡◌, ◌<◌, ◌≤◌, true, length, slice_index};
 ghost use Rattle.lexing.specs.Classes.{lettered};
-ghost use Rattle.lexing.specs.Tokens.{Cut, is, is_blank_token};
+ghost use Rattle.lexing.specs.Tokens.{Cut, is, is_blank_token, tokens, placed};
 
 use crate::class::{Class, class_of};
 
@@ -47,6 +47,55 @@ pub fn token_end(text: &[u8], at: usize) -> usize
         return at + 2;
     }
     at + 1
+}
+
+// A token of a text, and the place of its first byte.
+#[derive(Clone, Copy)]
+pub struct Token<'a> {
+    pub bytes: &'a [u8],
+    pub place: usize,
+}
+
+// The tokens of a text, first to last: an iterator that stands at the place of the next one.
+#[derive(Clone, Copy)]
+pub struct Tokens<'a> {
+    text: &'a [u8],
+    place: usize,
+}
+
+impl<'a> Tokens<'a> {
+    ghost use Rattle.lexing.specs.Left.{tokens_left};
+
+    // All tokens of a text.
+    pub fn new(text: &'a [u8]) -> Tokens<'a>
+        ensures all { tokens_left result ≡ placed 0 (tokens text.now) }
+    {
+        Tokens { text, place: 0 }
+    }
+}
+
+impl<'a> Iterator for Tokens<'a> {
+    ghost use Rattle.std.specs.Iterator.{YieldsFirstBy, item_count};
+    ghost use Rattle.lexing.specs.Left.{placed_token, tokens_left};
+
+    type Item = Token<'a>;
+
+    ghost next_gives = { YieldsFirstBy placed_token tokens_left };
+
+    ghost remaining = { item_count tokens_left };
+
+    #[tactic(auto, using(crate::proofs::Leaving::none_left))]
+    fn next(&mut self) -> Option<Token<'a>> {
+        let place = self.place;
+        if place >= self.text.len() {
+            return None;
+        }
+        self.place = token_end(self.text, place);
+        Some(Token {
+            bytes: &self.text[place..self.place],
+            place,
+        })
+    }
 }
 
 // Whether a token is just one byte.
