@@ -7,7 +7,7 @@ use Rattle.faults.specs.Refusals.{number}
 use Rattle.lexing.specs.declared.flaw.Flaw.{Flaw}
 use Rattle.lexing.specs.Flaws.{first_flaw, in_time}
 use Rattle.lexing.specs.Tokens.{Token, tokens, Cut, Placed, placed, sieved, words}
-use Rattle.lexing.specs.Readers.{Steps, Outcome, flaw, step, going, from, piece}
+use Rattle.lexing.specs.Readers.{Steps, Outcome, flaw, step, going, from, with_length, piece}
 use Rattle.lexing.specs.Grammars.{Grammar, read_of, Whole, Begins, Faulty, unexpected, unfinished, caused, too_long, NotAbove, Refused, Accepted}
 use Rattle.lexing.proofs.Bools.{which, clash, and_0, and_1}
 use Rattle.lexing.proofs.Lexing.{Solid, solid_tokens, size, size_tokens}
@@ -236,8 +236,7 @@ module _ (g : Grammar) (c : Steps g) (law : Lawful g c) where
 
     -- the answer, with the length of the text
     abbrev pub settled : Outcome g → Outcome g
-    settled (Ok p) = cond (leb end 4096) (Ok p) (Err (flaw g.limit 4096))
-    settled (Err f) = Err (first_flaw f end g.limit)
+    settled o = with_length g end o
 
     abbrev pub Judged : Outcome g → Type 0
     Judged (Ok p) = Accepted g text p
@@ -289,6 +288,9 @@ module _ (g : Grammar) (c : Steps g) (law : Lawful g c) where
 
     pub refused_so : (f : Flaw) → way ≡ Err f → Refused g text (first_flaw f end g.limit).refusal (first_flaw f end g.limit).place
     refused_so f e = subst Judged (ap settled e) judged
+
+    pub refused_read : (f : Flaw) → settled way ≡ Err f → Refused g text f.refusal f.place
+    refused_read f e = subst Judged e judged
 
     -- one turn of a reader's loop
     pub turn_skip : (k e : ℕ) (p : g.Part) → Cut text k e → g.skips (piece text k e) ≡ true → from g c text k p ≡ from g c text e p

@@ -6,3 +6,4 @@ pub mod Naming
 pub mod Holding
 pub mod Course
 pub mod Leaving
+pub mod Turns

@@ -4,6 +4,7 @@
 pub mod class;
 pub mod flaw;
 pub mod name;
+pub mod reader;
 pub mod token;
 pub mod words;
 
@@ -12,5 +13,6 @@ pub use flaw::{Flaw, TEXT_MAX, with_length};
 pub use name::{
     Alphabet, NAME_MAX, Name, all_belong, is_identifier, is_name, number_in, position, to_name,
 };
+pub use reader::{TokenReader, read};
 pub use token::{Token, Tokens, is_blank, is_byte, token_end};
 pub use words::word;
