@@ -29,10 +29,10 @@ module _ {R : Type 0} (g : Grammar) (c : Steps g) (Stands : R → g.Part → Typ
     kept s = here.way ∙ ap (on here.part) turn ∙ rw (sym s) refl
 
     module _ (solid : false ≡ g.skips t.token) (new : R) where
-      pub taken : (u : Unit {0}) → ((p : g.Part) → Stands r p → TakenAt c (Stands new) p t (Ok u)) → ReadUpTo new left
+      pub taken : (u : Unit {0}) → ((p : g.Part) → Stands r p → TakenAt {X = Unit {0}} c (λ _. Stands new) p t (Ok u)) → ReadUpTo new left
       taken u f = let k = f here.part here.stands in record { part = c.next here.part t.token; stands = k.1; way = kept solid ∙ rw k.0 refl }
 
-      pub refused : (x : Flaw) → ((p : g.Part) → Stands r p → TakenAt c (Stands new) p t (Err x)) → WentThrough g c Stands text (Err x)
+      pub refused : (x : Flaw) → ((p : g.Part) → Stands r p → TakenAt {X = Unit {0}} c (λ _. Stands new) p t (Err x)) → WentThrough g c Stands text (Err x)
       refused x f = let k = f here.part here.stands in kept solid ∙ rw k.0 (ap (λ (n : ℕ). Err (flaw x.refusal n)) (sym k.1))
 
   module _ (r : R) (left : List Placed) (here : ReadUpTo r left) (none : left ≡ []) where

@@ -31,15 +31,15 @@ going g c end p (t ∷ ts) = step (c.wrong p t.token) t.place (going g c end (c.
 abbrev pub from : (g : Grammar) → Steps g → List ℕ → ℕ → g.Part → Outcome g
 from g c text k p = going g c (length text) p (sieved g.skips (placed k (tokens (drop k text))))
 
--- a reader takes a token behind a part: it is refused as the steps say, or the reader stands behind the next part
-abbrev pub Taken : {g : Grammar} → Steps g → (g.Part → Type 0) → g.Part → Token → Result (Unit {0}) Refusal → Type 0
-Taken c Stands p t (Ok u) = (c.wrong p t ≡ None) × Stands (c.next p t)
+-- a token is taken behind a part: it is refused as the steps say, or what is got stands behind the next part
+abbrev pub Taken : {X : Type 0} {g : Grammar} → Steps g → (X → g.Part → Type 0) → g.Part → Token → Result X Refusal → Type 0
+Taken c Stands p t (Ok x) = (c.wrong p t ≡ None) × Stands x (c.next p t)
 Taken c Stands p t (Err r) = c.wrong p t ≡ Some r
 
 -- the same, where a refusal is told with the token's place
-abbrev pub TakenAt : {g : Grammar} → Steps g → (g.Part → Type 0) → g.Part → Placed → Result (Unit {0}) Flaw → Type 0
-TakenAt c Stands p t (Ok u) = Taken c Stands p t.token (Ok u)
-TakenAt c Stands p t (Err f) = Taken c Stands p t.token (Err f.refusal) × (f.place ≡ t.place)
+abbrev pub TakenAt : {X : Type 0} {g : Grammar} → Steps g → (X → g.Part → Type 0) → g.Part → Placed → Result X Flaw → Type 0
+TakenAt c Stands p t (Ok x) = (c.wrong p t.token ≡ None) × Stands x (c.next p t.token)
+TakenAt c Stands p t (Err f) = (c.wrong p t.token ≡ Some f.refusal) × (f.place ≡ t.place)
 
 -- what the reader's way over the whole text gives: a reader behind the whole of it, or a flaw
 abbrev pub WentThrough : {R : Type 0} (g : Grammar) → Steps g → (R → g.Part → Type 0) → List ℕ → Result R Flaw → Type 0

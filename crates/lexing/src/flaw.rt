@@ -1,17 +1,26 @@
 // What a reader finds wrong with a text.
 ghost use Rattle.std.specs.Prelude.{◌≡◌};
+ghost use Rattle.faults.specs.Faults.{placed};
 ghost use Rattle.lexing.specs.Flaws.{first_flaw};
 
-use faults::Refusal;
+use faults::{Fault, Refusal};
 
 // How many bytes a text may have.
 pub const TEXT_MAX: usize = 4096;
 
 // A refusal, and the place of the token that it is for.
-#[derive(Clone, Copy)]
+#[derive(Clone, Copy, PartialEq, Eq, Debug)]
 pub struct Flaw {
     pub refusal: Refusal,
     pub place: usize,
+}
+
+impl From<Flaw> for Fault {
+    ghost from_gives = { λ flaw fault. fault ≡ placed flaw.refusal flaw.place };
+
+    fn from(flaw: Flaw) -> Fault {
+        Fault::placed(flaw.refusal, flaw.place)
+    }
 }
 
 // The flaw that counts in a text of a length: the one that was found, unless the text is too long

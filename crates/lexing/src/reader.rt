@@ -34,7 +34,7 @@ pub trait TokenReader: Drop {
 
     // Takes a token that is not passed over, or refuses it.
     fn take(&mut self, token: &[u8]) -> Result<(), Refusal>
-        ensures taken { (x : Given) (p : (grammar x).Part) → StandsBehind x self.old p → Taken (steps x) (StandsBehind x self.new) p token.now result };
+        ensures taken { (x : Given) (p : (grammar x).Part) → StandsBehind x self.old p → Taken (steps x) (λ _. StandsBehind x self.new) p token.now result };
 
     // Whether nothing is missing.
     fn is_whole(&self) -> bool
@@ -43,7 +43,7 @@ pub trait TokenReader: Drop {
 
 // Takes a token; a refusal is told with the token's place.
 fn take_placed<R: TokenReader>(reader: &mut R, token: Token) -> Result<(), Flaw>
-    ensures taken { (x : R.Given) (p : (R.grammar x).Part) → R.StandsBehind x reader.old p → TakenAt (R.steps x) (R.StandsBehind x reader.new) p (placed_token token.entry) result }
+    ensures taken { (x : R.Given) (p : (R.grammar x).Part) → R.StandsBehind x reader.old p → TakenAt (R.steps x) (λ _. R.StandsBehind x reader.new) p (placed_token token.entry) result }
 {
     let place = token.place;
     reader
@@ -52,10 +52,9 @@ fn take_placed<R: TokenReader>(reader: &mut R, token: Token) -> Result<(), Flaw>
 }
 
 // What the tokens of a text give, its length aside.
-fn read_tokens<R: TokenReader>(reader: R, text: &[u8]) -> Result<R, Flaw>
+fn read_tokens<R: TokenReader>(mut reader: R, text: &[u8]) -> Result<R, Flaw>
     ensures gone { (x : R.Given) → R.StandsBehind x reader (R.steps x).start → WentThrough (R.grammar x) (R.steps x) (R.StandsBehind x) text.now result }
 {
-    let mut reader = reader;
     for token in Tokens::new(text) {
         if R::passes_over(token.bytes) {
             continue;
