@@ -1,12 +1,11 @@
 -- Names: tests byte by byte, and places in lists of names.
-use Rattle.std.proofs.Common.{◌≡◌, ℕ, zero, suc, ◌+◌, ◌<◌, ◌≤◌, Bool, true, false, cond, ◌||◌, ◌⊎◌, List, [], ◌∷◌, ◌++◌, map, length, get_or, drop, Some, None, Decides, Option, sym, refl, ap, ◌∙◌, subst, inl, inr, add-zero, zero-add, arith}
+use Rattle.std.proofs.Common.{◌≡◌, ℕ, zero, suc, ◌+◌, ◌<◌, ◌≤◌, Bool, true, false, cond, ◌||◌, ◌⊎◌, List, [], ◌∷◌, ◌++◌, map, length, get_or, Some, None, Decides, Option, sym, refl, ap, ◌∙◌, subst, inl, inr, arith, not, position, ltb, ltb-true, ltb-false, lt-ltb, le-ltb}
+use Rattle.std.specs.List.{position_or_len}
 use Rattle.std.specs.Option.{option_map}
 use Rattle.std.specs.Str.{bytes_eq}
 use Rattle.std.proofs.lemmas.Slice.Eq.{bytes_eq-Decides}
-use Rattle.std.proofs.lemmas.List.{drop_more, drop_all, get_or-map, length-map, length_push}
+use Rattle.std.proofs.lemmas.List.{length_push}
 use Rattle.lexing.specs.Tokens.{Token}
-use Rattle.bounded.specs.Held.{held}
-use Rattle.bounded.specs.declared.list.Bounded.{Bounded}
 use Rattle.lexing.specs.declared.name.Alphabet.TheVariants.{Names, Lower}
 use Rattle.lexing.specs.Names.{is_identifier, is_name, among, place_of, number_of, with_name, first_seen, numbers, AllAmong}
 use Rattle.lexing.proofs.Bools.{which, clash}
@@ -32,28 +31,19 @@ same_decided xs ys false d = go (which (bytes_eq xs ys))
     go (inl e) = absurd (clash (d.1 (same_is xs ys e)) refl)
     go (inr e) = sym e
 
--- places, counted from i on
-abbrev pub shifted : ℕ → Option ℕ → Option ℕ
-shifted i None = None
-shifted i (Some n) = Some (i + n)
-
-pub shifted_none : (o : Option ℕ) → o ≡ shifted 0 o
-shifted_none None = refl
-shifted_none (Some n) = ap Some (sym (zero-add n))
-
-shifted_more : (i : ℕ) (o : Option ℕ) → shifted i (option_map suc o) ≡ shifted (i + 1) o
-shifted_more i None = refl
-shifted_more i (Some n) = let e : i + suc n ≡ i + 1 + n = omega arith in ap Some e
-
-pub place_miss : (t : Token) (xs : List Token) (i : ℕ) → i < length xs → place_of t xs ≡ shifted i (place_of t (drop i xs)) → bytes_eq t (get_or xs i []) ≡ false →
-    place_of t xs ≡ shifted (i + 1) (place_of t (drop (i + 1) xs))
-place_miss t xs i h e f = e ∙ rw (drop_more xs i [] h) (rw f (shifted_more i (place_of t (drop (i + 1) xs))))
-
-pub place_hit : (t : Token) (xs : List Token) (i : ℕ) → i < length xs → place_of t xs ≡ shifted i (place_of t (drop i xs)) → bytes_eq t (get_or xs i []) ≡ true → Some i ≡ place_of t xs
-place_hit t xs i h e f = sym (e ∙ rw (drop_more xs i [] h) (rw f (ap Some (add-zero i))))
-
-pub place_done : (t : Token) (xs : List Token) (i : ℕ) → length xs ≤ i → place_of t xs ≡ shifted i (place_of t (drop i xs)) → None ≡ place_of t xs
-place_done t xs i h e = sym (e ∙ rw (drop_all i xs h) refl)
+-- the first place is the one that the library's search finds
+pub place_position : {X : Type 0} (name : X → Token) (t : Token) (xs : List X) → position (λ x. bytes_eq t (name x)) xs ≡ place_of t (map name xs)
+place_position name t [] = refl
+place_position name t (x ∷ xs) = go (bytes_eq t (name x)) (position_or_len (λ x. bytes_eq t (name x)) xs) (place_position name t xs)
+  where
+    go : (b : Bool) (n : ℕ) → cond (ltb n (length xs)) (Some n) None ≡ place_of t (map name xs) →
+        cond (ltb (cond (not b) (1 + n) 0) (suc (length xs))) (Some (cond (not b) (1 + n) 0)) None ≡ cond b (Some 0) (option_map suc (place_of t (map name xs)))
+    go true n e = rw (lt-ltb 0 (suc (length xs)) (omega arith)) refl
+    go false n e = rw (← e) (by (which (ltb n (length xs))))
+      where
+        by : (ltb n (length xs) ≡ true) ⊎ (ltb n (length xs) ≡ false) → cond (ltb (1 + n) (suc (length xs))) (Some (1 + n)) None ≡ option_map suc (cond (ltb n (length xs)) (Some n) None)
+        by (inl h) = let z = ltb-true n (length xs) h in rw (h, lt-ltb (1 + n) (suc (length xs)) (omega arith)) (let y : 1 + n ≡ suc n = omega arith in ap Some y)
+        by (inr h) = let z = ltb-false n (length xs) h in rw (h, le-ltb (1 + n) (suc (length xs)) (omega arith)) refl
 
 -- a place, and the number of a name
 pub place_some : (t : Token) (xs : List Token) (i : ℕ) → place_of t xs ≡ Some i → (i < length xs) × (get_or xs i [] ≡ t) × (among t xs ≡ true) × (number_of t xs ≡ i)
@@ -86,23 +76,6 @@ place_none t (x ∷ xs) e = go (bytes_eq t x) refl e (place_none t xs)
         by : (o : Option ℕ) → place_of t xs ≡ o → option_map suc o ≡ None → ((bytes_eq t x || among t xs) ≡ false) × (cond (bytes_eq t x) 0 (suc (number_of t xs)) ≡ suc (length xs))
         by None p q = let r = ih p in (rw f r.0, rw f (ap suc r.1))
         by (Some j) p q = absurd (let w : ◌≡◌ {A = ℕ} 0 1 = cc in omega arith)
-
--- at a name that was read from a list
-abbrev Listed : Type 0
-Listed = Bounded ℕ 16
-
-module _ (t s : Token) (ns : List Listed) (i : ℕ) (n : Listed) (h : i < length ns) (e : n ≡ get_or ns i n) (k : s ≡ held n) (p : place_of t (map held ns) ≡ shifted i (place_of t (drop i (map held ns)))) where
-  inside : i < length (map held ns)
-  inside = let z = length-map ns held in omega arith
-
-  there : get_or (map held ns) i [] ≡ s
-  there = get_or-map held ns i n [] h ∙ ap held (sym e) ∙ sym k
-
-  pub read_hit : bytes_eq t s ≡ true → Some i ≡ place_of t (map held ns)
-  read_hit f = place_hit t (map held ns) i inside p (ap (bytes_eq t) there ∙ f)
-
-  pub read_miss : bytes_eq t s ≡ false → place_of t (map held ns) ≡ shifted (i + 1) (place_of t (drop (i + 1) (map held ns)))
-  read_miss f = place_miss t (map held ns) i inside p (ap (bytes_eq t) there ∙ f)
 
 -- lists of names that grow
 pub among_push : (t : Token) (xs : List Token) (x : Token) → among t (xs ++ x ∷ []) ≡ (among t xs || bytes_eq t x)

@@ -11,7 +11,8 @@ pub mod words;
 pub use class::{Class, class_of};
 pub use flaw::{Flaw, TEXT_MAX, with_length};
 pub use name::{
-    Alphabet, NAME_MAX, Name, all_belong, is_identifier, is_name, number_in, position, to_name,
+    Alphabet, NAME_MAX, Name, Named, all_belong, is_identifier, is_name, number_in, position,
+    to_name,
 };
 pub use reader::{TokenReader, read};
 pub use token::{Token, Tokens, is_blank, is_byte, token_end};

@@ -1,5 +1,6 @@
 // Names, and lists of names.
-ghost use Rattle.std.specs.Prelude.{◌≡◌, ◌<◌, ◌≤◌, true, map, length, MatchOption};
+ghost use Rattle.std.specs.Prelude.{◌≡◌, ℕ, ◌<◌, ◌≤◌, true, List as Many, map, length, MatchOption};
+ghost use Rattle.std.specs.Str.{bytes_eq};
 ghost use Rattle.lexing.specs.Names.{all, belongs as inside, is_identifier, is_name, place_of};
 ghost use Rattle.bounded.specs.Held.{held};
 ghost use Rattle.lexing.specs.Lists.{names as named, Numbered};
@@ -10,7 +11,7 @@ use bounded::Bounded;
 // How many bytes a name or a variable may have.
 pub const NAME_MAX: usize = 16;
 
-pub type Name = Bounded<u8, 16>;
+pub type Name = Bounded<u8, NAME_MAX>;
 
 // Which bytes may stand at a place of a token.
 #[derive(Clone, Copy, PartialEq, Eq, Debug)]
@@ -71,26 +72,36 @@ pub fn is_name(token: &[u8]) -> bool
 pub fn to_name(token: &[u8]) -> Option<Name>
     ensures value { MatchOption result (16 < length token.now) (λ n. (length token.now ≤ 16) × (held n ≡ token.now)) }
 {
-    if token.len() > NAME_MAX {
-        return None;
-    }
-    let mut name = Bounded::new(0);
-    for byte in token {
-        let _ = name.push(*byte);
-    }
-    Some(name)
+    Bounded::from_slice(token, 0)
 }
 
-// The first place at which a token stands in a list of names.
-pub fn position(names: &[Name], token: &[u8]) -> Option<usize>
-    ensures value { result ≡ place_of token.now (map held names.now) }
-{
-    for (i, name) in names.iter().enumerate() {
-        if token == name.as_slice() {
-            return Some(i);
-        }
+// What has a name.
+pub trait Named {
+    ghost name_of: { Self → Many ℕ };
+
+    fn name(&self) -> &[u8]
+        ensures value { result.now ≡ name_of self.now };
+}
+
+impl Named for Name {
+    ghost name_of = { held };
+
+    fn name(&self) -> &[u8] {
+        self.as_slice()
     }
-    None
+}
+
+fn is_named<T: Named>(item: &T, name: &[u8]) -> bool
+    ensures value { result ≡ bytes_eq name.now (T.name_of item.now) }
+{
+    name == item.name()
+}
+
+// The first place in a list at which something has a name.
+pub fn position<T: Named>(list: &[T], name: &[u8]) -> Option<usize>
+    ensures value { result ≡ place_of name.now (map T.name_of list.now) }
+{
+    list.iter().position(|item| is_named(item, name))
 }
 
 // The number of a name in a list of names: its place, or the next one, at which it is then added.
@@ -98,10 +109,7 @@ pub fn position(names: &[Name], token: &[u8]) -> Option<usize>
 pub fn number_in(list: &mut Bounded<Name, 16>, token: &[u8], limit: usize) -> Option<u8>
     ensures value { Numbered (named list.old) (named list.new) token.now limit result }
 {
-    let name = match to_name(token) {
-        None => return None,
-        Some(name) => name,
-    };
+    let name = to_name(token)?;
     if let Some(i) = position(list.as_slice(), token) {
         return Some(i as u8);
     }
