@@ -1,24 +1,21 @@
 -- From the reader's way to the answer.
-use Rattle.std.proofs.Common.{◌≡◌, ℕ, ◌≤◌, true, ◌⊎◌, List, [], length, Ok, Err, Result, sym, refl, ap, ◌∙◌, subst, inl, inr, arith}
+use Rattle.std.proofs.Common.{◌≡◌, ℕ, ◌<◌, true, ◌⊎◌, List, map, length, Ok, Err, refl, ◌∙◌, subst, inl, inr, arith}
 use Rattle.faults.specs.declared.refusal.Refusal.{Refusal}
-use Rattle.faults.specs.declared.refusal.Refusal.TheVariants.{CatalogueForm}
-use Rattle.lexing.specs.declared.flaw.Flaw.{Flaw}
 use Rattle.lexing.specs.Grammars.{Accepted, Refused}
-use Rattle.lexing.specs.Readers.{from, flaw, Outcome}
-use Rattle.lexing.proofs.Course.{way, turn_end, one_part, one_refusal, not_both, near, judged, Judged, settled}
+use Rattle.bounded.specs.Held.{held}
+use Rattle.bounded.proofs.Holding.{length_held}
+use Rattle.lexing.specs.Readers.{Outcome, HasRead}
+use Rattle.lexing.proofs.Holding.{names_length}
+use Rattle.lexing.proofs.Course.{way, one_part, one_refusal, not_both, near, judged, Judged, settled, accepted_so}
 use Rattle.lexing.proofs.Bools.{clash}
-use Rattle.catalogue.specs.declared.record.Catalogue.{Catalogue}
-use Rattle.catalogue.specs.Sheets.{Line, Part, lines, columns, spaced, kinded, coloned, whole, sheets}
-use Rattle.catalogue.specs.Reading.{steps, Finished, GoneThrough}
+use Rattle.catalogue.specs.Sheets.{Line, Part, lines, columns, spaced, kinded, coloned, whole, kinds_in, sheets}
+use Rattle.catalogue.specs.declared.state.Reader.{Reader}
+use Rattle.catalogue.specs.Plain.{entry_columns, all_shaped}
+use Rattle.catalogue.specs.Reading.{steps, Seen, Tied}
+use Rattle.catalogue.proofs.Shaping.{some_there}
+use Rattle.catalogue.proofs.Taking.{entries_count}
 use Rattle.catalogue.specs.Texts.{OneAnswer}
 use Rattle.catalogue.proofs.Laws.{lawful, decoder}
-
-pub ends : (text : List ℕ) (k : ℕ) (p : Part) (r : Result Catalogue Flaw) → k ≤ length text → length text ≤ k → from sheets steps text 0 (lines []) ≡ from sheets steps text k p → Finished k p r → GoneThrough text r
-ends text k p (Ok c) a b e f =
-    (f.0, e ∙ turn_end sheets steps lawful text k p b ∙ rw f.1 (rw f.2 refl), f.3)
-ends text k p (Err x) a b e f =
-    let z : k ≡ length text = omega arith in
-    e ∙ turn_end sheets steps lawful text k p b ∙ rw f.0 (ap (λ (n : ℕ). Err (flaw CatalogueForm n)) (sym z) ∙ ap Err (sym f.1))
 
 -- a whole part is made of lines
 lines_of : (p : Part) → whole p ≡ true → (ls : List Line) × (p ≡ lines ls)
@@ -27,6 +24,30 @@ lines_of (columns ls n cs) e = absurd (clash e refl)
 lines_of (spaced ls n cs) e = absurd (clash e refl)
 lines_of (kinded ls n cs k) e = absurd (clash e refl)
 lines_of (coloned ls n cs k) e = absurd (clash e refl)
+
+-- what is read of a whole text
+pub record Whole (text : List ℕ) (r : Reader) : Type 0 where
+  pub lines_are : List Line
+  pub accepted : Accepted sheets text (lines lines_are)
+  pub seen : Seen r (kinds_in lines_are) lines_are
+  pub count : length (held r.entries) ≡ length lines_are
+
+module _ (text : List ℕ) (r : Reader) (h : HasRead sheets steps Tied text (Ok r)) where
+  pub whole_read : Whole text r
+  whole_read =
+      let a = accepted_so sheets steps lawful text h.1.0 h.1.1 h.0 in
+      let l = lines_of h.1.0 a.complete in
+      let s : Seen r (kinds_in l.0) l.0 = (subst (Tied r) l.1 h.1.2).1 in
+      record { lines_are = l.0; accepted = subst (Accepted sheets text) l.1 a; seen = s; count = entries_count r (kinds_in l.0) l.0 s }
+
+  pub some_read : 0 < r.entries.used
+  some_read =
+      let w = whole_read in
+      let z = some_there w.lines_are w.accepted.complete in
+      omega (arith, length_held r.entries, w.count)
+
+  pub shaped_read : all_shaped r.kinds.used (map entry_columns (held r.entries)) ≡ true
+  shaped_read = subst (λ (n : ℕ). all_shaped n (map entry_columns (held r.entries)) ≡ true) (names_length r.kinds ∙ length_held r.kinds) whole_read.seen.shaped
 
 pub one_answer : OneAnswer
 one_answer = record {

@@ -1,6 +1,6 @@
 pub mod Shaping
 pub mod Laws
+pub mod Comparing
 pub mod Taking
 pub mod Answering
-pub mod Holdings
-pub mod Comparing
+pub mod Facts

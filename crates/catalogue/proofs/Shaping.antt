@@ -50,9 +50,9 @@ pub marks_length : (cs : List Column) → length (marks_in cs) ≡ length cs
 marks_length [] = refl
 marks_length (c ∷ cs) = ap suc (marks_length cs)
 
-some_there : (cs : List Column) → some cs ≡ true → 0 < length cs
+pub some_there : {X : Type 0} (xs : List X) → some xs ≡ true → 0 < length xs
 some_there [] e = absurd (clash e refl)
-some_there (c ∷ cs) e = omega arith
+some_there (x ∷ xs) e = omega arith
 
 pub line_shaped : (ks : List Token) (l : Line) → some l.columns ≡ true → inputs_of (marks_in l.columns) ≤ 3 → AllAmong (kinds_of l.columns) ks → shaped (length ks) (numbered ks l) ≡ true
 line_shaped ks l s few all =

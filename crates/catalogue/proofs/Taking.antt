@@ -1,6 +1,7 @@
 -- A token taken, stage by stage.
-use Rattle.std.proofs.Common.{◌≡◌, ℕ, suc, ◌+◌, ◌<◌, ◌≤◌, Bool, true, false, cond, ◌&&◌, ◌||◌, ltb, leb, List, [], ◌∷◌, ◌++◌, map, length, Some, None, Ok, sym, refl, ap, ◌∙◌, subst, append_assoc, append-nil, arith, le-ltb, le-leb}
+use Rattle.std.proofs.Common.{◌≡◌, ℕ, suc, ◌+◌, ◌<◌, ◌≤◌, Bool, true, false, cond, ◌&&◌, ◌||◌, ltb, leb, List, [], ◌∷◌, ◌++◌, map, length, Some, None, Ok, is_some, Option, sym, refl, ap, ◌∙◌, subst, append_assoc, append-nil, arith, le-ltb, le-leb}
 use borrow.Author.Tests.{lt-leb}
+use Rattle.std.specs.Option.{ok_or}
 use Rattle.std.proofs.lemmas.Bool.{or_right}
 use Rattle.std.proofs.lemmas.List.{map_push, length-map}
 use Rattle.faults.specs.declared.refusal.Refusal.{Refusal}
@@ -9,76 +10,38 @@ use Rattle.source.specs.declared.mark.Mark.{Mark}
 use Rattle.source.specs.declared.mark.Mark.TheVariants.{Given, Free}
 use Rattle.source.specs.Marks.{inputs_of}
 use Rattle.bounded.specs.declared.list.Bounded.{Bounded}
+use Rattle.bounded.specs.Held.{held}
+use Rattle.bounded.proofs.Holding.{pushed}
 use Rattle.lexing.specs.Tokens.{Token, is}
 use Rattle.lexing.specs.Names.{is_name, among, place_of, number_of, with_name, first_seen, numbers, AllAmong}
-use Rattle.bounded.specs.Held.{held}
 use Rattle.lexing.specs.Lists.{names, crowded, Numbered}
+use Rattle.lexing.specs.Readers.{Taken}
 use Rattle.lexing.proofs.Naming.{place_some, place_none, seen_push, seen_all, all_among_0, all_among_1, numbers_push, numbers_kept, numbers_length, number_added, length_added}
-use Rattle.bounded.proofs.Holding.{length_held, pushed, held_none}
-use Rattle.lexing.proofs.Holding.{roomy, name_pushed, names_length}
+use Rattle.lexing.proofs.Holding.{roomy}
 use Rattle.catalogue.specs.declared.columns.Columns as rc
-use Rattle.catalogue.specs.declared.record.Catalogue.{Catalogue}
+use Rattle.catalogue.specs.declared.columns.Entry.{Entry}
 use Rattle.catalogue.specs.declared.state.Reader.{Reader}
 use Rattle.catalogue.specs.declared.state.Stage.{Stage}
 use Rattle.catalogue.specs.declared.state.Stage.TheVariants as at
 use Rattle.catalogue.specs.Sheets.{Column, Line, some, kinds_of, kinds_in, names_in, marks_in, known, Part, lines, columns, spaced, kinded, coloned}
-use Rattle.catalogue.specs.Plain.{PlainColumns, plain, shaped, all_shaped}
+use Rattle.catalogue.specs.Plain.{PlainColumns, entry_name, entry_columns, shaped, all_shaped}
 use Rattle.catalogue.specs.Records.{numbered}
+use Rattle.catalogue.specs.Reading.{mark_or_free, mark_read, refusal, wrong, steps, Seen, Begun, Behind, BehindKind, At}
 use Rattle.catalogue.proofs.Shaping.{kinds_length, marks_length, all_shaped_kept, all_shaped_push, line_shaped}
-use Rattle.catalogue.specs.Reading.{mark_or_free, mark_read, refusal, wrong, stage_of, Tied, Taken, Finished}
 
--- a refusal leaves nothing to tie
-pub stops : (new : Reader) (p : Part) (t : Token) (r : Refusal) → Some r ≡ wrong p t → Taken new p t (Some r)
-stops new p t r e = record { told = e; tied = λ z. absurd (let u : ◌≡◌ {A = ℕ} 0 1 = cc in omega arith) }
+-- what `ok_or` takes from an `Option`
+pub was_some : {X : Type 0} (o : Option X) (r : Refusal) (x : X) → Ok x ≡ ok_or o r → o ≡ Some x
+was_some None r x e = absurd (cc)
+was_some (Some y) r x e = let z : x ≡ y = cc in ap Some (sym z)
 
-told_limit : (a b c : Bool) → a ≡ true → b ≡ true → Some CatalogueLimit ≡ refusal a b c
+told_limit : (a b c : Bool) → a ≡ true → b ≡ true → refusal a b c ≡ Some CatalogueLimit
 told_limit a b c e f = rw (e, f) refl
 
-told_twice : (a b c : Bool) → a ≡ true → b ≡ false → c ≡ true → Some SourceNamedTwice ≡ refusal a b c
+told_twice : (a b c : Bool) → a ≡ true → b ≡ false → c ≡ true → refusal a b c ≡ Some SourceNamedTwice
 told_twice a b c e f g = rw (e, f, g) refl
 
-told_none : (a b c : Bool) → a ≡ true → b ≡ false → c ≡ false → None ≡ refusal a b c
+told_none : (a b c : Bool) → a ≡ true → b ≡ false → c ≡ false → refusal a b c ≡ None
 told_none a b c e f g = rw (e, f, g) refl
-
-names_count : (ls : List Line) → length (names_in ls) ≡ length ls
-names_count [] = refl
-names_count (l ∷ ls) = ap suc (names_count ls)
-
--- the lines stage
-module _ (r : Reader) (t : Token) (ls : List Line) (tied : Tied r (lines ls)) (name : is_name t ≡ true) (short : length t ≤ 16) (n : ℕ) (count : n ≡ length (held r.names)) where
-  lines_count : n ≡ length ls
-  lines_count = count ∙ sym (names_length r.names) ∙ ap length tied.state.sources ∙ names_count ls
-
-  pub ninth : (new : Reader) → 8 ≤ n → Taken new (lines ls) t (Some CatalogueLimit)
-  ninth new h = stops new (lines ls) t CatalogueLimit
-      (told_limit (is_name t) (ltb 16 (length t) || leb 8 (length ls)) (among t (names_in ls)) name (or_right (ltb 16 (length t)) (leb 8 (length ls)) (le-leb 8 (length ls) (let z = lines_count in omega arith))))
-
-  module _ (few : n < 8) where
-    fits_in : (ltb 16 (length t) || leb 8 (length ls)) ≡ false
-    fits_in = rw (le-ltb 16 (length t) short) (lt-leb 8 (length ls) (let z = lines_count in omega arith))
-
-    looked : (s : List (Bounded ℕ 16)) → s ≡ held r.names → place_of t (map held s) ≡ place_of t (names_in ls)
-    looked s e = ap (λ (x : List (Bounded ℕ 16)). place_of t (map held x)) e ∙ ap (place_of t) tied.state.sources
-
-    pub twice : (new : Reader) (s : List (Bounded ℕ 16)) (i : ℕ) → s ≡ held r.names → Some i ≡ place_of t (map held s) → Taken new (lines ls) t (Some SourceNamedTwice)
-    twice new s i e f = stops new (lines ls) t SourceNamedTwice
-        (told_twice (is_name t) (ltb 16 (length t) || leb 8 (length ls)) (among t (names_in ls)) name fits_in (place_some t (names_in ls) i (sym (f ∙ looked s e))).2)
-
-    pub begins_line : (s : List (Bounded ℕ 16)) (w : Bounded ℕ 16) (more : Bounded (Bounded ℕ 16) 8) (line : rc.Columns) (k : ℕ) (b : Bool) → s ≡ held r.names → None ≡ place_of t (map held s) →
-        held w ≡ t → b ≡ ltb r.names.used 8 → held more ≡ cond b (held r.names ++ w ∷ []) (held r.names) → line.kinds.used ≡ 0 → line.marks.used ≡ 0 →
-        Taken (record { stage = at.Columns; kinds = r.kinds; names = more; columns = r.columns; line = line; given = 0; kind = k }) (lines ls) t None
-    begins_line s w more line k b e f g u v x y =
-        let m = name_pushed r.names more w t g (pushed r.names more w b u v (let z = count in omega arith)) in
-        record {
-          told = told_none (is_name t) (ltb 16 (length t) || leb 8 (length ls)) (among t (names_in ls)) name fits_in (place_none t (names_in ls) (sym (f ∙ looked s e))).0;
-          tied = λ z. record {
-            stage = refl;
-            state = (
-              record { kinds = rw (append-nil (kinds_in ls)) tied.state.kinds; sources = m ∙ ap (λ (l : List Token). l ++ t ∷ []) tied.state.sources; lines = tied.state.lines; shaped = tied.state.shaped },
-              record { few = omega arith; room = let q = lines_count in omega arith; kinds = held_none line.kinds x; marks = held_none line.marks y; given = refl },
-            );
-          };
-        }
 
 -- lists that grow by one
 kinds_push : (cs : List Column) (c : Column) → kinds_of (cs ++ c ∷ []) ≡ kinds_of cs ++ c.kind ∷ []
@@ -114,172 +77,236 @@ lines_kept ks k (l ∷ ls) a =
     let f = lines_kept ks k ls (all_among_1 (kinds_of l.columns) (kinds_in ls) ks a) in
     rw (e, f) refl
 
--- the columns stage, at the end of the line
-line_fits : (cs : List Column) (t : Token) → is 32 t ≡ false → some cs ≡ true → is 10 t ≡ true → (is 32 t || (some cs && is 10 t)) ≡ true
-line_fits cs t a b c = rw (a, b, c) refl
+pub names_count : (ls : List Line) → length (names_in ls) ≡ length ls
+names_count [] = refl
+names_count (l ∷ ls) = ap suc (names_count ls)
 
-pub ends_line : (r : Reader) (t : Token) (ls : List Line) (n : Token) (cs : List Column) (more : Bounded rc.Columns 8) (b : Bool) (m : ℕ) → Tied r (columns ls n cs) → is 32 t ≡ false → is 10 t ≡ true →
-    m ≡ length (held r.line.marks) → (m ≡ 0 → ⊥) → b ≡ ltb r.columns.used 8 → held more ≡ cond b (held r.columns ++ r.line ∷ []) (held r.columns) →
-    Taken (record { stage = at.Lines; kinds = r.kinds; names = r.names; columns = more; line = r.line; given = r.given; kind = r.kind }) (columns ls n cs) t None
-ends_line r t ls n cs more b m tied a d count nonzero u v =
-    let s = tied.state.0 in
-    let g = tied.state.1 in
-    let ks = names r.kinds in
-    let l : Line = record { name = n; columns = cs } in
-    let z : some cs ≡ true = some_length cs (λ w. nonzero (let q = ap length g.marks in let y = marks_length cs in omega arith)) in
-    let there : length (held r.columns) ≡ length ls = sym (length-map (held r.columns) plain) ∙ ap length s.lines ∙ length-map ls (numbered ks) in
-    let grown = pushed r.columns more r.line b u v (let q = g.room in omega arith) in
-    let same : plain r.line ≡ numbered ks l = columns_are (held r.line.kinds) (numbers ks (kinds_of cs)) (held r.line.marks) (marks_in cs) g.kinds g.marks in
-    record {
-      told = told_none (is 32 t || (some cs && is 10 t)) false false (line_fits cs t a z d) refl refl;
-      tied = λ w. rw a (record {
-        stage = refl;
-        state = record {
+-- there are as many entries as lines
+pub entries_count : (r : Reader) (ks : List Token) (ls : List Line) → Seen r ks ls → length (held r.entries) ≡ length ls
+entries_count r ks ls s = sym (length-map (held r.entries) entry_name) ∙ ap length s.sources ∙ names_count ls
+
+-- the lines stage
+module _ (r : Reader) (t : Token) (ls : List Line) (s : Seen r (kinds_in ls) ls) (name : is_name t ≡ true) (short : length t ≤ 16) where
+  pub ninth : 8 ≤ length (held r.entries) → wrong (lines ls) t ≡ Some CatalogueLimit
+  ninth h = told_limit (is_name t) (ltb 16 (length t) || leb 8 (length ls)) (among t (names_in ls)) name
+      (or_right (ltb 16 (length t)) (leb 8 (length ls)) (le-leb 8 (length ls) (let z = entries_count r (kinds_in ls) ls s in omega arith)))
+
+  module _ (few : length (held r.entries) < 8) (place : Option ℕ) (found : place ≡ place_of t (map entry_name (held r.entries))) where
+    fits_in : (ltb 16 (length t) || leb 8 (length ls)) ≡ false
+    fits_in = rw (le-ltb 16 (length t) short) (lt-leb 8 (length ls) (let z = entries_count r (kinds_in ls) ls s in omega arith))
+
+    looked : place_of t (names_in ls) ≡ place
+    looked = sym (found ∙ ap (place_of t) s.sources)
+
+    pub twice : is_some place ≡ true → wrong (lines ls) t ≡ Some SourceNamedTwice
+    twice h = told_twice (is_name t) (ltb 16 (length t) || leb 8 (length ls)) (among t (names_in ls)) name fits_in (go place looked h)
+      where
+        go : (o : Option ℕ) → place_of t (names_in ls) ≡ o → is_some o ≡ true → among t (names_in ls) ≡ true
+        go None e h = absurd (cc)
+        go (Some i) e h = (place_some t (names_in ls) i e).2
+
+    pub begins_line : is_some place ≡ false → (e : Entry) → held e.name ≡ t → held e.columns.kinds ≡ [] → held e.columns.marks ≡ [] → Taken steps (At r) (lines ls) t (Ok (at.Columns e))
+    begins_line h e n ks ms = (
+      told_none (is_name t) (ltb 16 (length t) || leb 8 (length ls)) (among t (names_in ls)) name fits_in (go place looked h),
+      (
+        e,
+        refl,
+        (
+          record { kinds = rw (append-nil (kinds_in ls)) s.kinds; sources = s.sources; lines = s.lines; shaped = s.shaped },
+          record { room = let z = entries_count r (kinds_in ls) ls s in omega arith; name = n; kinds = ks; marks = ms; few = omega arith },
+        ),
+      ),
+    )
+      where
+        go : (o : Option ℕ) → place_of t (names_in ls) ≡ o → is_some o ≡ false → among t (names_in ls) ≡ false
+        go None e h = (place_none t (names_in ls) e).0
+        go (Some i) e h = absurd (cc)
+
+-- the columns stage
+module _ (r : Reader) (e : Entry) (t : Token) (ls : List Line) (n : Token) (cs : List Column) (behind : Behind r e ls n cs) where
+  pub goes_on : is 32 t ≡ true → Taken steps (At r) (columns ls n cs) t (Ok (at.Spaced e))
+  goes_on a = rw a (refl, (e, refl, behind))
+
+  module _ (a : is 32 t ≡ false) (d : is 10 t ≡ true) (nonzero : length (held e.columns.marks) ≡ 0 → ⊥) (more : Bounded Entry 8) (b : Bool) (u : b ≡ ltb r.entries.used 8) (v : held more ≡ cond b (held r.entries ++ e ∷ []) (held r.entries)) where
+    abbrev s : Seen r (kinds_in ls ++ kinds_of cs) ls
+    s = behind.0
+
+    abbrev g : Begun r e ls n cs
+    g = behind.1
+
+    abbrev ks : List Token
+    ks = names r.kinds
+
+    abbrev l : Line
+    l = record { name = n; columns = cs }
+
+    z : some cs ≡ true
+    z = some_length cs (λ w. nonzero (let q = ap length g.marks in let y = marks_length cs in omega arith))
+
+    line_fits : (some cs && is 10 t) ≡ true
+    line_fits = rw (z, d) refl
+
+    grown : held more ≡ held r.entries ++ e ∷ []
+    grown = pushed r.entries more e b u v (let q = g.room in let y = entries_count r (kinds_in ls ++ kinds_of cs) ls s in omega arith)
+
+    same : entry_columns e ≡ numbered (names r.kinds) (record { name = n; columns = cs })
+    same = rw (g.kinds, g.marks) refl
+
+    pub ends_line : Taken steps (At (record { stage = r.stage; kinds = r.kinds; entries = more })) (columns ls n cs) t (Ok at.Lines)
+    ends_line = rw a (
+      told_none (some cs && is 10 t) false false line_fits refl refl,
+      (
+        refl,
+        record {
           kinds = s.kinds ∙ ap (first_seen []) (sym (kinds_in_push ls l));
-          sources = s.sources ∙ sym (names_push ls l);
-          lines = ap (map plain) grown ∙ map_push plain (held r.columns) r.line ∙ ap (λ (x : List PlainColumns). x ++ plain r.line ∷ []) s.lines
+          sources = ap (map entry_name) grown ∙ map_push entry_name (held r.entries) e ∙ ap (λ (x : List Token). x ++ entry_name e ∷ []) s.sources ∙ ap (λ (x : Token). names_in ls ++ x ∷ []) g.name ∙ sym (names_push ls l);
+          lines = ap (map entry_columns) grown ∙ map_push entry_columns (held r.entries) e ∙ ap (λ (x : List PlainColumns). x ++ entry_columns e ∷ []) s.lines
               ∙ ap (λ (x : PlainColumns). map (numbered ks) ls ++ x ∷ []) same ∙ sym (map_push (numbered ks) ls l);
-          shaped = subst (λ (x : List PlainColumns). all_shaped (length ks) x ≡ true) (sym (ap (map plain) grown ∙ map_push plain (held r.columns) r.line))
-              (all_shaped_push (length ks) (map plain (held r.columns)) (plain r.line) s.shaped (ap (shaped (length ks)) same ∙ line_shaped ks l z g.few
+          shaped = subst (λ (x : List PlainColumns). all_shaped (length ks) x ≡ true) (sym (ap (map entry_columns) grown ∙ map_push entry_columns (held r.entries) e))
+              (all_shaped_push (length ks) (map entry_columns (held r.entries)) (entry_columns e) s.shaped (ap (shaped (length ks)) same ∙ line_shaped ks l z g.few
               (all_among_1 (kinds_in ls) (kinds_of cs) ks (subst (AllAmong (kinds_in ls ++ kinds_of cs)) (sym s.kinds) (seen_all [] (kinds_in ls ++ kinds_of cs))))));
-        };
-      });
-    }
-  where
-    columns_are : (k j : List ℕ) (x y : List Mark) → k ≡ j → x ≡ y → ◌≡◌ {A = PlainColumns} (record { kinds = k; marks = x }) (record { kinds = j; marks = y })
-    columns_are k j x y e f = rw (e, f) refl
+        },
+      ),
+    )
 
 -- the spaced stage
-module _ (r : Reader) (t : Token) (ls : List Line) (n : Token) (cs : List Column) (tied : Tied r (spaced ls n cs)) (name : is_name t ≡ true) (m : ℕ) (count : m ≡ length (held r.line.marks)) where
-  columns_count : m ≡ length cs
-  columns_count = count ∙ ap length tied.state.1.marks ∙ marks_length cs
+module _ (r : Reader) (e : Entry) (t : Token) (ls : List Line) (n : Token) (cs : List Column) (behind : Behind r e ls n cs) (name : is_name t ≡ true) where
+  columns_count : length (held e.columns.marks) ≡ length cs
+  columns_count = ap length behind.1.marks ∙ marks_length cs
 
-  pub fifth : (new : Reader) → 4 ≤ m → Taken new (spaced ls n cs) t (Some CatalogueLimit)
-  fifth new h = stops new (spaced ls n cs) t CatalogueLimit
-      (told_limit (is_name t) (leb 4 (length cs) || crowded t (known ls cs)) false name (rw (le-leb 4 (length cs) (let z = columns_count in omega arith)) refl))
+  pub fifth : 4 ≤ length (held e.columns.marks) → wrong (spaced ls n cs) t ≡ Some CatalogueLimit
+  fifth h = told_limit (is_name t) (leb 4 (length cs) || crowded t (known ls cs)) false name (rw (le-leb 4 (length cs) (let z = columns_count in omega arith)) refl)
 
-  pub has_kind : (more : Bounded (Bounded ℕ 16) 16) (i : ℕ) → m < 4 → Numbered (names r.kinds) (names more) t 16 (Some i) →
-      Taken (record { stage = at.Kinded; kinds = more; names = r.names; columns = r.columns; line = r.line; given = r.given; kind = i }) (spaced ls n cs) t None
+  pub has_kind : (more : Bounded (Bounded ℕ 16) 16) (i : ℕ) → length (held e.columns.marks) < 4 → Numbered (names r.kinds) (names more) t 16 (Some i) →
+      Taken steps (At (record { stage = r.stage; kinds = more; entries = r.entries })) (spaced ls n cs) t (Ok (at.Kinded e i))
   has_kind more i few q =
-      let s = tied.state.0 in
-      let g = tied.state.1 in
+      let s = behind.0 in
+      let g = behind.1 in
       let ks = names r.kinds in
       let seen : AllAmong (kinds_in ls ++ kinds_of cs) ks = subst (AllAmong (kinds_in ls ++ kinds_of cs)) (sym s.kinds) (seen_all [] (kinds_in ls ++ kinds_of cs)) in
-      let room : length cs < 4 = let z = columns_count in omega arith in
-      record {
-        told = told_none (is_name t) (leb 4 (length cs) || crowded t (known ls cs)) false name (rw (lt-leb 4 (length cs) room) (roomy (known ls cs) t (names r.kinds) (names more) i s.kinds q)) refl;
-        tied = λ z. record {
-          stage = refl;
-          state = (
+      let room : length cs < 4 = let z = columns_count in omega arith in (
+        told_none (is_name t) (leb 4 (length cs) || crowded t (known ls cs)) false name (rw (lt-leb 4 (length cs) room) (roomy (known ls cs) t (names r.kinds) (names more) i s.kinds q)) refl,
+        (
+          e,
+          i,
+          refl,
+          (
             record {
               kinds = q.0 ∙ ap (λ (x : List Token). with_name x t) s.kinds ∙ sym (seen_push [] (kinds_in ls ++ kinds_of cs) t) ∙ ap (first_seen []) (append_assoc (kinds_in ls) (kinds_of cs) (t ∷ []));
               sources = s.sources;
-              shaped = subst (λ (x : List Token). all_shaped (length x) (map plain (held r.columns)) ≡ true) (sym q.0) (all_shaped_kept (length ks) (length (with_name ks t)) (map plain (held r.columns)) (length_added ks t) s.shaped);
+              shaped = subst (λ (x : List Token). all_shaped (length x) (map entry_columns (held r.entries)) ≡ true) (sym q.0) (all_shaped_kept (length ks) (length (with_name ks t)) (map entry_columns (held r.entries)) (length_added ks t) s.shaped);
               lines = s.lines ∙ sym (ap (λ (x : List Token). map (numbered x) ls) q.0 ∙ lines_kept ks t ls (all_among_0 (kinds_in ls) (kinds_of cs) ks seen));
             },
             record {
               room = g.room;
+              name = g.name;
               marks = g.marks;
-              given = g.given;
               few = g.few;
               kinds = g.kinds ∙ sym (ap (λ (x : List Token). numbers x (kinds_of cs)) q.0 ∙ numbers_kept ks (kinds_of cs) t (all_among_1 (kinds_in ls) (kinds_of cs) ks seen));
             },
-            record { room = room; kind = q.1 ∙ sym (ap (number_of t) q.0 ∙ number_added t ks) },
-          );
-        };
-      }
+            record { room = room; number = q.1 ∙ sym (ap (number_of t) q.0 ∙ number_added t ks) },
+          ),
+        ),
+      )
+
+-- the kinded stage
+pub has_colon : (r : Reader) (e : Entry) (i : ℕ) (t : Token) (ls : List Line) (n : Token) (cs : List Column) (k : Token) → BehindKind r e i ls n cs k → is 58 t ≡ true → Taken steps (At r) (kinded ls n cs k) t (Ok (at.Coloned e i))
+has_colon r e i t ls n cs k behind c = (told_none (is 58 t) false false c refl refl, (e, i, refl, behind))
 
 -- the coloned stage
-pub has_mark : (r : Reader) (t : Token) (ls : List Line) (n : Token) (cs : List Column) (k : Token) (kinds : Bounded ℕ 4) (marks : Bounded Mark 4) (mark : Mark) (given : ℕ) (a b : Bool) → Tied r (coloned ls n cs k) →
-    Some mark ≡ mark_read t → (mark ≡ Given → r.given < 3) → given ≡ r.given + inputs_of (mark ∷ []) →
-    a ≡ ltb r.line.kinds.used 4 → held kinds ≡ cond a (held r.line.kinds ++ r.kind ∷ []) (held r.line.kinds) →
-    b ≡ ltb r.line.marks.used 4 → held marks ≡ cond b (held r.line.marks ++ mark ∷ []) (held r.line.marks) →
-    Taken (record { stage = at.Columns; kinds = r.kinds; names = r.names; columns = r.columns; line = record { kinds = kinds; marks = marks }; given = given; kind = r.kind }) (coloned ls n cs k) t None
-has_mark r t ls n cs k kinds marks mark given a b tied read few count ka kb ma mb =
-    let s = tied.state.0 in
-    let g = tied.state.1 in
-    let j = tied.state.2 in
-    let ks = names r.kinds in
-    let c : Column = record { kind = k; mark = mark_or_free t } in
-    let is_mark = mark_fits t mark read in
-    let marks_so = pushed r.line.marks marks mark b ma mb (let q = ap length g.marks in let y = marks_length cs in omega (arith, j.room)) in
-    let kinds_so = pushed r.line.kinds kinds r.kind a ka kb (let q = ap length g.kinds in let y = numbers_length ks (kinds_of cs) in let x = kinds_length cs in omega (arith, j.room)) in
-    let given_is : r.given + inputs_of (mark ∷ []) ≡ inputs_of (marks_in (cs ++ c ∷ [])) = ap (λ (x : ℕ). x + inputs_of (mark ∷ [])) g.given ∙ sym (inputs_push (marks_in cs) mark) ∙ ap inputs_of (ap (λ (x : Mark). marks_in cs ++ x ∷ []) is_mark.1 ∙ sym (marks_push cs c)) in
-    let marks_are : held marks ≡ marks_in (cs ++ c ∷ []) = marks_so ∙ ap (λ (x : List Mark). x ++ mark ∷ []) g.marks ∙ ap (λ (x : Mark). marks_in cs ++ x ∷ []) is_mark.1 ∙ sym (marks_push cs c) in
-    record {
-      told = told_none (is 98 t || is 102 t) (is 98 t && leb 3 (inputs_of (marks_in cs))) false is_mark.0 (not_past (is 98 t) refl) refl;
-      tied = λ w. record {
-        stage = refl;
-        state = (
-          record { kinds = s.kinds ∙ ap (λ (x : List Token). first_seen [] (kinds_in ls ++ x)) (sym (kinds_push cs c)); sources = s.sources; lines = s.lines; shaped = s.shaped },
-          record {
-            room = g.room;
-            marks = marks_are;
-            kinds = kinds_so ∙ ap (λ (x : List ℕ). x ++ r.kind ∷ []) g.kinds ∙ ap (λ (x : ℕ). numbers ks (kinds_of cs) ++ x ∷ []) j.kind ∙ sym (numbers_push ks (kinds_of cs) k) ∙ ap (numbers ks) (sym (kinds_push cs c));
-            given = count ∙ given_is;
-            few = subst (λ (x : ℕ). x ≤ 3) given_is (few_more mark few (let y = g.few in let x = g.given in omega arith));
-          },
-        );
-      };
-    }
+mark_fits : (t : Token) (m : Mark) → Some m ≡ mark_read t → ((is 98 t || is 102 t) ≡ true) × (m ≡ mark_or_free t)
+mark_fits t m e = go (is 98 t) (is 102 t) e
   where
-    mark_fits : (t : Token) (m : Mark) → Some m ≡ mark_read t → ((is 98 t || is 102 t) ≡ true) × (m ≡ mark_or_free t)
-    mark_fits t m e = go (is 98 t) (is 102 t) e
-      where
-        go : (x y : Bool) → Some m ≡ cond x (Some Given) (cond y (Some Free) None) → ((x || y) ≡ true) × (m ≡ cond x Given Free)
-        go true y f = (refl, cc)
-        go false true f = (refl, cc)
-        go false false f = absurd (let u : ◌≡◌ {A = ℕ} 0 1 = cc in omega arith)
+    go : (x y : Bool) → Some m ≡ cond x (Some Given) (cond y (Some Free) None) → ((x || y) ≡ true) × (m ≡ cond x Given Free)
+    go true y f = (refl, cc)
+    go false true f = (refl, cc)
+    go false false f = absurd (cc)
 
-    few_more : (m : Mark) → (m ≡ Given → r.given < 3) → r.given ≤ 3 → r.given + inputs_of (m ∷ []) ≤ 3
-    few_more Given f h = let z = f refl in omega arith
-    few_more Free f h = omega arith
+module _ (r : Reader) (e : Entry) (i : ℕ) (t : Token) (ls : List Line) (n : Token) (cs : List Column) (k : Token) (behind : BehindKind r e i ls n cs k) (mark : Mark) (read : Some mark ≡ mark_read t) where
+  pub fourth : mark ≡ Given → 3 ≤ inputs_of (held e.columns.marks) → wrong (coloned ls n cs k) t ≡ Some CatalogueLimit
+  fourth given h = told_limit (is 98 t || is 102 t) (is 98 t && leb 3 (inputs_of (marks_in cs))) false (mark_fits t mark read).0
+      (go (is 98 t) refl ((mark_fits t mark read).1))
+    where
+      go : (x : Bool) → is 98 t ≡ x → mark ≡ cond x Given Free → (x && leb 3 (inputs_of (marks_in cs))) ≡ true
+      go true j f = le-leb 3 (inputs_of (marks_in cs)) (let z = ap inputs_of behind.1.marks in omega arith)
+      go false j f = absurd (cc)
 
-    not_past : (x : Bool) → is 98 t ≡ x → (is 98 t && leb 3 (inputs_of (marks_in cs))) ≡ false
-    not_past false i = rw i refl
-    not_past true i = rw i (lt-leb 3 (inputs_of (marks_in cs)) (let z = tied.state.1.given in let y = few ((mark_fits t mark read).1 ∙ rw i refl) in omega arith))
+  pub has_mark : (mark ≡ Given → inputs_of (held e.columns.marks) < 3) → (more : rc.Columns) →
+      (length (held e.columns.kinds) < 4 → held more.kinds ≡ held e.columns.kinds ++ i ∷ []) → (length (held e.columns.marks) < 4 → held more.marks ≡ held e.columns.marks ++ mark ∷ []) →
+      Taken steps (At r) (coloned ls n cs k) t (Ok (at.Columns (record { name = e.name; columns = more })))
+  has_mark few more ka ma =
+      let s = behind.0 in
+      let g = behind.1 in
+      let j = behind.2 in
+      let ks = names r.kinds in
+      let c : Column = record { kind = k; mark = mark_or_free t } in
+      let is_mark = mark_fits t mark read in
+      let marks_so = ma (let q = ap length g.marks in let y = marks_length cs in omega (arith, j.room)) in
+      let kinds_so = ka (let q = ap length g.kinds in let y = numbers_length ks (kinds_of cs) in let x = kinds_length cs in omega (arith, j.room)) in
+      let marks_are : held more.marks ≡ marks_in (cs ++ c ∷ []) = marks_so ∙ ap (λ (x : List Mark). x ++ mark ∷ []) g.marks ∙ ap (λ (x : Mark). marks_in cs ++ x ∷ []) is_mark.1 ∙ sym (marks_push cs c) in (
+        told_none (is 98 t || is 102 t) (is 98 t && leb 3 (inputs_of (marks_in cs))) false is_mark.0 (not_past (is 98 t) refl) refl,
+        (
+          record { name = e.name; columns = more },
+          refl,
+          (
+            record { kinds = s.kinds ∙ ap (λ (x : List Token). first_seen [] (kinds_in ls ++ x)) (sym (kinds_push cs c)); sources = s.sources; lines = s.lines; shaped = s.shaped },
+            record {
+              room = g.room;
+              name = g.name;
+              marks = marks_are;
+              kinds = kinds_so ∙ ap (λ (x : List ℕ). x ++ i ∷ []) g.kinds ∙ ap (λ (x : ℕ). numbers ks (kinds_of cs) ++ x ∷ []) j.number ∙ sym (numbers_push ks (kinds_of cs) k) ∙ ap (numbers ks) (sym (kinds_push cs c));
+              few = subst (λ (x : List Mark). inputs_of x ≤ 3) (ap (λ (x : Mark). marks_in cs ++ x ∷ []) is_mark.1 ∙ sym (marks_push cs c)) (few_more mark (λ w. let z = few w in let y = ap inputs_of g.marks in omega arith) g.few);
+            },
+          ),
+        ),
+      )
+    where
+      few_more : (m : Mark) → (m ≡ Given → inputs_of (marks_in cs) < 3) → inputs_of (marks_in cs) ≤ 3 → inputs_of (marks_in cs ++ m ∷ []) ≤ 3
+      few_more Given f h = let z = f refl in let y = inputs_push (marks_in cs) Given in omega arith
+      few_more Free f h = let y = inputs_push (marks_in cs) Free in omega arith
 
--- which stage a part is of
-abbrev pub At : Stage → (Part → Type 0) → Type 0
-At at.Lines P = (ls : List Line) → P (lines ls)
-At at.Columns P = (ls : List Line) (n : Token) (cs : List Column) → P (columns ls n cs)
-At at.Spaced P = (ls : List Line) (n : Token) (cs : List Column) → P (spaced ls n cs)
-At at.Kinded P = (ls : List Line) (n : Token) (cs : List Column) (k : Token) → P (kinded ls n cs k)
-At at.Coloned P = (ls : List Line) (n : Token) (cs : List Column) (k : Token) → P (coloned ls n cs k)
+      not_past : (x : Bool) → is 98 t ≡ x → (is 98 t && leb 3 (inputs_of (marks_in cs))) ≡ false
+      not_past false i = rw i refl
+      not_past true i = rw i (lt-leb 3 (inputs_of (marks_in cs)) (let y = few ((mark_fits t mark read).1 ∙ rw i refl) in let z = ap inputs_of behind.1.marks in omega arith))
 
-at_stage : (P : Part → Type 0) (p : Part) → At (stage_of p) P → P p
-at_stage P (lines ls) f = f ls
-at_stage P (columns ls n cs) f = f ls n cs
-at_stage P (spaced ls n cs) f = f ls n cs
-at_stage P (kinded ls n cs k) f = f ls n cs k
-at_stage P (coloned ls n cs k) f = f ls n cs k
+-- what the stage of a reader says of the part behind which it stands
+abbrev pub Standing : Reader → Stage → (Part → Type 0) → Type 0
+Standing r at.Lines P = (ls : List Line) → Seen r (kinds_in ls) ls → P (lines ls)
+Standing r (at.Columns e) P = (ls : List Line) (n : Token) (cs : List Column) → Behind r e ls n cs → P (columns ls n cs)
+Standing r (at.Spaced e) P = (ls : List Line) (n : Token) (cs : List Column) → Behind r e ls n cs → P (spaced ls n cs)
+Standing r (at.Kinded e i) P = (ls : List Line) (n : Token) (cs : List Column) (k : Token) → BehindKind r e i ls n cs k → P (kinded ls n cs k)
+Standing r (at.Coloned e i) P = (ls : List Line) (n : Token) (cs : List Column) (k : Token) → BehindKind r e i ls n cs k → P (coloned ls n cs k)
 
-pub by_stage : (r : Reader) (s : Stage) (P : Part → Type 0) → r.stage ≡ s → At s (λ p. Tied r p → P p) → (p : Part) → Tied r p → P p
-by_stage r s P e f p t = at_stage (λ q. Tied r q → P q) p (subst (λ (x : Stage). At x (λ q. Tied r q → P q)) (sym e ∙ t.stage) f) t
+at_stage : (r : Reader) (s : Stage) (P : Part → Type 0) (p : Part) → At r s p → Standing r s P → P p
+at_stage r s P (lines ls) a f = (subst (λ (x : Stage). Standing r x P) a.0 f) ls a.1
+at_stage r s P (columns ls n cs) a f = (subst (λ (x : Stage). Standing r x P) a.1 f) ls n cs a.2
+at_stage r s P (spaced ls n cs) a f = (subst (λ (x : Stage). Standing r x P) a.1 f) ls n cs a.2
+at_stage r s P (kinded ls n cs k) a f = (subst (λ (x : Stage). Standing r x P) a.2 f) ls n cs k a.3
+at_stage r s P (coloned ls n cs k) a f = (subst (λ (x : Stage). Standing r x P) a.2 f) ls n cs k a.3
 
--- at the end of a line there are as many names as lists of columns
-columns_count_is : (r : Reader) (ls : List Line) → Tied r (lines ls) → length (held r.columns) ≡ length ls
-columns_count_is r ls t = sym (length-map (held r.columns) plain) ∙ ap length t.state.lines ∙ length-map ls (numbered (names r.kinds))
+pub by_stage : (r : Reader) (s : Stage) (P : Part → Type 0) → r.stage ≡ s → Standing r s P → (p : Part) → At r r.stage p → P p
+by_stage r s P e f p a = at_stage r r.stage P p a (subst (λ (x : Stage). Standing r x P) (sym e) f)
 
-pub all_paired : (r : Reader) → ((p : Part) × Tied r p) → r.stage ≡ at.Lines → r.names.used ≡ r.columns.used
-all_paired r p e = by_stage r at.Lines (λ q. r.names.used ≡ r.columns.used) e
-    (λ ls t. sym (length_held r.names) ∙ sym (names_length r.names) ∙ ap length t.state.sources ∙ names_count ls ∙ sym (columns_count_is r ls t) ∙ length_held r.columns) p.0 p.1
+-- what is said of a reader at a stage does not depend on the stage at which it is
+module _ (r : Reader) (x : Stage) where
+  abbrev moved : Reader
+  moved = record { stage = x; kinds = r.kinds; entries = r.entries }
 
-pub all_shapes : (r : Reader) → ((p : Part) × Tied r p) → r.stage ≡ at.Lines → all_shaped r.kinds.used (map plain (held r.columns)) ≡ true
-all_shapes r p e = by_stage r at.Lines (λ q. all_shaped r.kinds.used (map plain (held r.columns)) ≡ true) e
-    (λ ls t. subst (λ (n : ℕ). all_shaped n (map plain (held r.columns)) ≡ true) (names_length r.kinds ∙ length_held r.kinds) t.state.shaped) p.0 p.1
+  seen_moved : (ks : List Token) (ls : List Line) → Seen r ks ls → Seen moved ks ls
+  seen_moved _ ls s = record { kinds = s.kinds; sources = s.sources; lines = s.lines; shaped = s.shaped }
 
--- the end of the text
-pub ended : (r : Reader) (end n : ℕ) → r.stage ≡ at.Lines → n ≡ length (held r.columns) → 0 < n → (c : Catalogue) → c.kinds ≡ r.kinds → c.names ≡ r.names → c.columns ≡ r.columns → (p : Part) → Tied r p → Finished end p (Ok c)
-ended r end n e count h c ek en ec = by_stage r at.Lines (λ p. Finished end p (Ok c)) e
-    (λ ls t.
-    let there = columns_count_is r ls t in (
-      ls,
-      refl,
-      some_length ls (λ z. omega arith),
-      record {
-        kinds = ap names ek ∙ t.state.kinds;
-        names = ap names en ∙ t.state.sources;
-        columns = ap (λ (x : Bounded rc.Columns 8). map plain (held x)) ec ∙ t.state.lines ∙ ap (λ (x : Bounded (Bounded ℕ 16) 16). map (numbered (names x)) ls) (sym ek);
-      },
-    ))
+  begun_moved : (e : Entry) (ls : List Line) (n : Token) (cs : List Column) → Begun r e ls n cs → Begun moved e ls n cs
+  begun_moved e ls n cs g = record { room = g.room; name = g.name; kinds = g.kinds; marks = g.marks; few = g.few }
+
+  behind_moved : (e : Entry) (ls : List Line) (n : Token) (cs : List Column) → Behind r e ls n cs → Behind moved e ls n cs
+  behind_moved e ls n cs b = (seen_moved _ ls b.0, begun_moved e ls n cs b.1)
+
+  kind_moved : (e : Entry) (i : ℕ) (ls : List Line) (n : Token) (cs : List Column) (k : Token) → BehindKind r e i ls n cs k → BehindKind moved e i ls n cs k
+  kind_moved e i ls n cs k b = (seen_moved _ ls b.0, begun_moved e ls n cs b.1, record { room = b.2.room; number = b.2.number })
+
+  pub at_moved : (s : Stage) (p : Part) → At r s p → At moved s p
+  at_moved s (lines ls) a = (a.0, seen_moved _ ls a.1)
+  at_moved s (columns ls n cs) a = (a.0, a.1, behind_moved a.0 ls n cs a.2)
+  at_moved s (spaced ls n cs) a = (a.0, a.1, behind_moved a.0 ls n cs a.2)
+  at_moved s (kinded ls n cs k) a = (a.0, a.1, a.2, kind_moved a.0 a.1 ls n cs k a.3)
+  at_moved s (coloned ls n cs k) a = (a.0, a.1, a.2, kind_moved a.0 a.1 ls n cs k a.3)

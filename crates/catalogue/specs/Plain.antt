@@ -3,7 +3,9 @@ use Rattle.std.specs.Prelude.{ℕ, Bool, true, ◌&&◌, List, [], ◌∷◌, le
 use Rattle.source.specs.declared.mark.Mark.{Mark}
 use Rattle.source.specs.Marks.{inputs_of}
 use Rattle.bounded.specs.Held.{held}
+use Rattle.lexing.specs.Tokens.{Token}
 use Rattle.catalogue.specs.declared.columns.Columns as record_columns
+use Rattle.catalogue.specs.declared.columns.Entry.{Entry}
 
 -- the columns of a source: the numbers of their kinds, and their marks
 pub record PlainColumns : Type 0 where
@@ -12,6 +14,13 @@ pub record PlainColumns : Type 0 where
 
 abbrev pub plain : record_columns.Columns → PlainColumns
 plain c = record { kinds = held c.kinds; marks = held c.marks }
+
+-- the name and the columns of an entry
+abbrev pub entry_name : Entry → Token
+entry_name e = held e.name
+
+abbrev pub entry_columns : Entry → PlainColumns
+entry_columns e = plain e.columns
 
 abbrev pub no_columns : PlainColumns
 no_columns = record { kinds = []; marks = [] }

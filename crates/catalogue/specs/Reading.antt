@@ -1,23 +1,22 @@
 -- The steps of the reader, and how its state goes with the part that is read. None of this is part of what a text means.
-use Rattle.std.specs.Prelude.{◌≡◌, ℕ, ◌<◌, ◌≤◌, Bool, true, false, cond, ◌&&◌, ◌||◌, List, [], ◌∷◌, ◌++◌, map, length, Some, None, Ok, Err, Option, Result, nat_le, nat_lt}
+use Rattle.std.specs.Prelude.{◌≡◌, ℕ, ◌<◌, ◌≤◌, Bool, true, false, cond, ◌&&◌, ◌||◌, List, [], ◌∷◌, ◌++◌, map, length, Some, None, Option, nat_le, nat_lt}
 use Rattle.faults.specs.declared.refusal.Refusal.{Refusal}
 use Rattle.faults.specs.declared.refusal.Refusal.TheVariants.{CatalogueForm, CatalogueLimit, SourceNamedTwice}
 use Rattle.source.specs.declared.mark.Mark.{Mark}
 use Rattle.source.specs.declared.mark.Mark.TheVariants.{Given, Free}
 use Rattle.source.specs.Marks.{inputs_of}
-use Rattle.lexing.specs.declared.flaw.Flaw.{Flaw}
 use Rattle.lexing.specs.Tokens.{Token, is}
 use Rattle.lexing.specs.Names.{is_name, among, first_seen, number_of, numbers}
 use Rattle.bounded.specs.Held.{held}
 use Rattle.lexing.specs.Lists.{names, crowded}
-use Rattle.lexing.specs.Readers.{Steps, from, flaw}
-use Rattle.catalogue.specs.declared.record.Catalogue.{Catalogue}
+use Rattle.lexing.specs.Readers.{Steps}
+use Rattle.catalogue.specs.declared.columns.Entry.{Entry}
 use Rattle.catalogue.specs.declared.state.Reader.{Reader}
 use Rattle.catalogue.specs.declared.state.Stage.{Stage}
 use Rattle.catalogue.specs.declared.state.Stage.TheVariants as at
-use Rattle.catalogue.specs.Sheets.{Column, Line, Part, lines, columns, spaced, kinded, coloned, some, whole, kinds_of, kinds_in, names_in, marks_in, known, sheets}
-use Rattle.catalogue.specs.Plain.{plain, all_shaped}
-use Rattle.catalogue.specs.Records.{numbered, Records}
+use Rattle.catalogue.specs.Sheets.{Column, Line, Part, lines, columns, spaced, kinded, coloned, some, kinds_of, kinds_in, names_in, marks_in, known, sheets}
+use Rattle.catalogue.specs.Plain.{entry_name, entry_columns, all_shaped}
+use Rattle.catalogue.specs.Records.{numbered}
 
 abbrev pub mark_read : Token → Option Mark
 mark_read t = cond (is 98 t) (Some Given) (cond (is 102 t) (Some Free) None)
@@ -64,56 +63,42 @@ wrong p t = refusal (fits p t) (over p t) (again p t)
 abbrev pub steps : Steps sheets
 steps = record { start = lines []; fits = fits; next = next; wrong = wrong }
 
--- the kinds, sources and lines that are read: these kinds appeared, these names, these whole lines
-pub record Seen (r : Reader) (ks ns : List Token) (ls : List Line) : Type 0 where
+-- the kinds and the lines that are read: these kinds appeared, and the entries are of these whole lines
+pub record Seen (r : Reader) (ks : List Token) (ls : List Line) : Type 0 where
   pub kinds : names r.kinds ≡ first_seen [] ks
-  pub sources : names r.names ≡ ns
-  pub lines : map plain (held r.columns) ≡ map (numbered (names r.kinds)) ls
-  pub shaped : all_shaped (length (names r.kinds)) (map plain (held r.columns)) ≡ true
+  pub sources : map entry_name (held r.entries) ≡ names_in ls
+  pub lines : map entry_columns (held r.entries) ≡ map (numbered (names r.kinds)) ls
+  pub shaped : all_shaped (length (names r.kinds)) (map entry_columns (held r.entries)) ≡ true
 
--- the line that is begun has these columns
-pub record Begun (r : Reader) (ls : List Line) (cs : List Column) : Type 0 where
+-- the entry that is begun behind these lines has this name and these columns
+pub record Begun (r : Reader) (e : Entry) (ls : List Line) (n : Token) (cs : List Column) : Type 0 where
   pub room : length ls < 8
-  pub kinds : held r.line.kinds ≡ numbers (names r.kinds) (kinds_of cs)
-  pub marks : held r.line.marks ≡ marks_in cs
-  pub given : r.given ≡ inputs_of (marks_in cs)
+  pub name : held e.name ≡ n
+  pub kinds : held e.columns.kinds ≡ numbers (names r.kinds) (kinds_of cs)
+  pub marks : held e.columns.marks ≡ marks_in cs
   pub few : inputs_of (marks_in cs) ≤ 3
 
--- the column that is begun has this kind
-pub record Kind (r : Reader) (cs : List Column) (k : Token) : Type 0 where
+-- the column that is begun has the kind of this number
+pub record Kind (r : Reader) (i : ℕ) (cs : List Column) (k : Token) : Type 0 where
   pub room : length cs < 4
-  pub kind : r.kind ≡ number_of k (names r.kinds)
+  pub number : i ≡ number_of k (names r.kinds)
 
-abbrev pub stage_of : Part → Stage
-stage_of (lines ls) = at.Lines
-stage_of (columns ls n cs) = at.Columns
-stage_of (spaced ls n cs) = at.Spaced
-stage_of (kinded ls n cs k) = at.Kinded
-stage_of (coloned ls n cs k) = at.Coloned
+-- whole lines are read, and an entry is begun
+abbrev pub Behind : Reader → Entry → List Line → Token → List Column → Type 0
+Behind r e ls n cs = Seen r (kinds_in ls ++ kinds_of cs) ls × Begun r e ls n cs
 
-abbrev pub State : Reader → Part → Type 0
-State r (lines ls) = Seen r (kinds_in ls) (names_in ls) ls
-State r (columns ls n cs) = Seen r (kinds_in ls ++ kinds_of cs) (names_in ls ++ n ∷ []) ls × Begun r ls cs
-State r (spaced ls n cs) = Seen r (kinds_in ls ++ kinds_of cs) (names_in ls ++ n ∷ []) ls × Begun r ls cs
-State r (kinded ls n cs k) = Seen r (kinds_in ls ++ (kinds_of cs ++ k ∷ [])) (names_in ls ++ n ∷ []) ls × Begun r ls cs × Kind r cs k
-State r (coloned ls n cs k) = Seen r (kinds_in ls ++ (kinds_of cs ++ k ∷ [])) (names_in ls ++ n ∷ []) ls × Begun r ls cs × Kind r cs k
+-- the same, and a column is begun
+abbrev pub BehindKind : Reader → Entry → ℕ → List Line → Token → List Column → Token → Type 0
+BehindKind r e i ls n cs k = Seen r (kinds_in ls ++ (kinds_of cs ++ k ∷ [])) ls × Begun r e ls n cs × Kind r i cs k
+
+-- the reader would stand behind the part if it were at this stage
+abbrev pub At : Reader → Stage → Part → Type 0
+At r s (lines ls) = (s ≡ at.Lines) × Seen r (kinds_in ls) ls
+At r s (columns ls n cs) = (e : Entry) × (s ≡ at.Columns e) × Behind r e ls n cs
+At r s (spaced ls n cs) = (e : Entry) × (s ≡ at.Spaced e) × Behind r e ls n cs
+At r s (kinded ls n cs k) = (e : Entry) × (i : ℕ) × (s ≡ at.Kinded e i) × BehindKind r e i ls n cs k
+At r s (coloned ls n cs k) = (e : Entry) × (i : ℕ) × (s ≡ at.Coloned e i) × BehindKind r e i ls n cs k
 
 -- the reader stands behind the part
-pub record Tied (r : Reader) (p : Part) : Type 0 where
-  pub stage : r.stage ≡ stage_of p
-  pub state : State r p
-
--- a token is taken: what is wrong with it, or the reader stands behind it
-pub record Taken (new : Reader) (p : Part) (t : Token) (r : Option Refusal) : Type 0 where
-  pub told : r ≡ wrong p t
-  pub tied : r ≡ None → Tied new (next p t)
-
--- what the end of the text gives behind a part
-abbrev pub Finished : ℕ → Part → Result Catalogue Flaw → Type 0
-Finished end p (Ok c) = (ls : List Line) × (p ≡ lines ls) × (some ls ≡ true) × Records c ls
-Finished end p (Err f) = (whole p ≡ false) × (f ≡ flaw CatalogueForm end)
-
--- what the reader's way over the whole text gives
-abbrev pub GoneThrough : List ℕ → Result Catalogue Flaw → Type 0
-GoneThrough text (Ok c) = (ls : List Line) × (from sheets steps text 0 (lines []) ≡ Ok (lines ls)) × Records c ls
-GoneThrough text (Err f) = from sheets steps text 0 (lines []) ≡ Err f
+abbrev pub Tied : Reader → Part → Type 0
+Tied r p = At r r.stage p

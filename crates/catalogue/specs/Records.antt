@@ -5,7 +5,7 @@ use Rattle.bounded.specs.Held.{held}
 use Rattle.lexing.specs.Lists.{names}
 use Rattle.lexing.specs.Names.{first_seen, numbers}
 use Rattle.catalogue.specs.declared.record.Catalogue.{Catalogue}
-use Rattle.catalogue.specs.Plain.{PlainColumns, plain, no_columns}
+use Rattle.catalogue.specs.Plain.{PlainColumns, entry_name, entry_columns, no_columns}
 use Rattle.catalogue.specs.Sheets.{Line, kinds_of, kinds_in, names_in, marks_in}
 
 -- the names of the kinds and of the sources, and the sources' columns, by number
@@ -13,10 +13,10 @@ abbrev pub kind_names : Catalogue → List Token
 kind_names c = names c.kinds
 
 abbrev pub source_names : Catalogue → List Token
-source_names c = names c.names
+source_names c = map entry_name (held c.entries)
 
 abbrev pub source_columns : Catalogue → List PlainColumns
-source_columns c = map plain (held c.columns)
+source_columns c = map entry_columns (held c.entries)
 
 -- the columns of one source; none where there is no such source
 abbrev pub columns_of : Catalogue → ℕ → PlainColumns

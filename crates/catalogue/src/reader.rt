@@ -1,16 +1,18 @@
 // Reads the text of a catalogue.
 ghost use Rattle.std.specs.Prelude.{◌≡◌, List as Many, []};
-ghost use Rattle.catalogue.specs.Sheets.{Line, Column, Part, lines, columns as begun, spaced, kinded, coloned};
-ghost use Rattle.catalogue.specs.Reading.{mark_read, Tied, Taken, Finished, GoneThrough};
+ghost use Rattle.catalogue.specs.Sheets.{Line, Column, Part, lines, columns as begun, spaced, kinded, coloned, kinds_in};
+ghost use Rattle.catalogue.specs.Reading.{mark_read, steps, Seen, Behind, BehindKind, At, Tied};
+ghost use Rattle.catalogue.specs.declared.state.Reader as behind;
+ghost use Rattle.lexing.specs.Readers.{Taken};
 ghost use Rattle.lexing.specs.Tokens.{Token};
 
-use crate::columns::Columns;
-use crate::record::Catalogue;
+use crate::columns::{Columns, Entry};
 use crate::state::{Reader, Stage};
 use bounded::Bounded;
 use faults::Refusal;
-use lexing::{Flaw, is_byte, is_name, number_in, position, to_name, token_end};
+use lexing::{TokenReader, is_byte, is_name, number_in, position, to_name};
 use source::Mark;
+use source::values::count_inputs;
 
 // How many sources, columns of a source, kinds, and given columns of a source there may be.
 const SOURCES_MAX: usize = 8;
@@ -25,190 +27,143 @@ const GIVEN_MAX: usize = 3;
 fn mark_of(token: &[u8]) -> Option<Mark>
     ensures value { result ≡ mark_read token.now }
 {
-    if token.len() != 1 {
-        return None;
-    }
-    match token[0] as char {
-        'b' => Some(Mark::Given),
-        'f' => Some(Mark::Free),
+    match token {
+        [b'b'] => Some(Mark::Given),
+        [b'f'] => Some(Mark::Free),
         _ => None,
     }
 }
 
-fn no_columns() -> Columns
-    ensures kinds { result.kinds.used ≡ 0 }
-    ensures marks { result.marks.used ≡ 0 }
+// A colon comes between a kind and its mark.
+fn take_colon(entry: Entry, kind: u8, token: &[u8]) -> Result<Stage, Refusal>
+    ensures taken { (r : behind.Reader) (ls : Many Line) (n : Token) (cs : Many Column) (k : Token) → BehindKind r entry kind ls n cs k → Taken steps (At r) (kinded ls n cs k) token.now result }
 {
-    Columns {
-        kinds: Bounded::new(0),
-        marks: Bounded::new(Mark::Free),
+    if !is_byte(token, b':') {
+        return Err(Refusal::CatalogueForm);
     }
+    Ok(Stage::Coloned(entry, kind))
+}
+
+// A mark ends a column.
+fn take_mark(entry: Entry, kind: u8, token: &[u8]) -> Result<Stage, Refusal>
+    ensures taken { (r : behind.Reader) (ls : Many Line) (n : Token) (cs : Many Column) (k : Token) → BehindKind r entry kind ls n cs k → Taken steps (At r) (coloned ls n cs k) token.now result }
+{
+    let mark = mark_of(token).ok_or(Refusal::CatalogueForm)?;
+    let given = count_inputs(entry.columns.marks.as_slice());
+    if mark == Mark::Given && given >= GIVEN_MAX {
+        return Err(Refusal::CatalogueLimit);
+    }
+    Ok(Stage::Columns(Entry {
+        columns: entry.columns.with(kind, mark),
+        ..entry
+    }))
 }
 
 impl Reader {
     // Nothing is read yet.
-    fn new() -> Reader
+    pub(crate) fn new() -> Reader
         ensures tied { Tied result (lines []) }
     {
         let name = Bounded::new(0);
-        let line = no_columns();
+        let columns = Columns::new();
         Reader {
             stage: Stage::Lines,
             kinds: Bounded::new(name),
-            names: Bounded::new(name),
-            columns: Bounded::new(line),
-            line,
-            given: 0,
-            kind: 0,
+            entries: Bounded::new(Entry { name, columns }),
         }
     }
 
     // The name of a source begins a line.
-    fn take_source(&mut self, token: &[u8]) -> Option<Refusal>
-        ensures taken { (ls : Many Line) → Tied self.old (lines ls) → Taken self.new (lines ls) token.now result }
+    fn take_source(&self, token: &[u8]) -> Result<Stage, Refusal>
+        ensures taken { (ls : Many Line) → Seen self.now (kinds_in ls) ls → Taken steps (At self.now) (lines ls) token.now result }
     {
         if !is_name(token) {
-            return Some(Refusal::CatalogueForm);
+            return Err(Refusal::CatalogueForm);
         }
-        let Some(name) = to_name(token) else {
-            return Some(Refusal::CatalogueLimit);
-        };
-        if self.names.len() >= SOURCES_MAX {
-            return Some(Refusal::CatalogueLimit);
+        let name = to_name(token).ok_or(Refusal::CatalogueLimit)?;
+        let entries = self.entries.as_slice();
+        if entries.len() >= SOURCES_MAX {
+            return Err(Refusal::CatalogueLimit);
         }
-        if let Some(_) = position(self.names.as_slice(), token) {
-            return Some(Refusal::SourceNamedTwice);
+        if position(entries, token).is_some() {
+            return Err(Refusal::SourceNamedTwice);
         }
-        let _ = self.names.push(name);
-        self.line = no_columns();
-        self.given = 0;
-        self.stage = Stage::Columns;
-        None
+        let columns = Columns::new();
+        Ok(Stage::Columns(Entry { name, columns }))
     }
 
     // A space comes before a column, and a newline behind the last.
-    fn take_gap(&mut self, token: &[u8]) -> Option<Refusal>
-        ensures taken { (ls : Many Line) (n : Token) (cs : Many Column) → Tied self.old (begun ls n cs) → Taken self.new (begun ls n cs) token.now result }
+    fn take_gap(&mut self, entry: Entry, token: &[u8]) -> Result<Stage, Refusal>
+        ensures taken { (ls : Many Line) (n : Token) (cs : Many Column) → Behind self.old entry ls n cs → Taken steps (At self.new) (begun ls n cs) token.now result }
     {
         if is_byte(token, b' ') {
-            self.stage = Stage::Spaced;
-            return None;
+            return Ok(Stage::Spaced(entry));
         }
-        if self.line.marks.len() == 0 {
-            return Some(Refusal::CatalogueForm);
+        if entry.columns.marks.len() == 0 || !is_byte(token, b'\n') {
+            return Err(Refusal::CatalogueForm);
         }
-        if !is_byte(token, b'\n') {
-            return Some(Refusal::CatalogueForm);
-        }
-        let line = self.line;
-        let _ = self.columns.push(line);
-        self.stage = Stage::Lines;
-        None
+        let _ = self.entries.push(entry);
+        Ok(Stage::Lines)
     }
 
     // The kind of a column; a new one gets the next number.
-    fn take_kind(&mut self, token: &[u8]) -> Option<Refusal>
-        ensures taken { (ls : Many Line) (n : Token) (cs : Many Column) → Tied self.old (spaced ls n cs) → Taken self.new (spaced ls n cs) token.now result }
+    fn take_kind(&mut self, entry: Entry, token: &[u8]) -> Result<Stage, Refusal>
+        ensures taken { (ls : Many Line) (n : Token) (cs : Many Column) → Behind self.old entry ls n cs → Taken steps (At self.new) (spaced ls n cs) token.now result }
     {
         if !is_name(token) {
-            return Some(Refusal::CatalogueForm);
+            return Err(Refusal::CatalogueForm);
         }
-        if self.line.marks.len() >= COLUMNS_MAX {
-            return Some(Refusal::CatalogueLimit);
+        if entry.columns.marks.len() >= COLUMNS_MAX {
+            return Err(Refusal::CatalogueLimit);
         }
-        let Some(kind) = number_in(&mut self.kinds, token, KINDS_MAX) else {
-            return Some(Refusal::CatalogueLimit);
-        };
-        self.kind = kind;
-        self.stage = Stage::Kinded;
-        None
+        let kind = number_in(&mut self.kinds, token, KINDS_MAX).ok_or(Refusal::CatalogueLimit)?;
+        Ok(Stage::Kinded(entry, kind))
     }
 
-    // A colon comes between a kind and its mark.
-    fn take_colon(&mut self, token: &[u8]) -> Option<Refusal>
-        ensures taken { (ls : Many Line) (n : Token) (cs : Many Column) (k : Token) → Tied self.old (kinded ls n cs k) → Taken self.new (kinded ls n cs k) token.now result }
+    // The stage behind a token.
+    fn step(&mut self, token: &[u8]) -> Result<Stage, Refusal>
+        ensures taken { (p : Part) → Tied self.old p → Taken steps (At self.new) p token.now result }
     {
-        if !is_byte(token, b':') {
-            return Some(Refusal::CatalogueForm);
-        }
-        self.stage = Stage::Coloned;
-        None
-    }
-
-    // A mark ends a column.
-    fn take_mark(&mut self, token: &[u8]) -> Option<Refusal>
-        ensures taken { (ls : Many Line) (n : Token) (cs : Many Column) (k : Token) → Tied self.old (coloned ls n cs k) → Taken self.new (coloned ls n cs k) token.now result }
-    {
-        let Some(mark) = mark_of(token) else {
-            return Some(Refusal::CatalogueForm);
-        };
-        match mark {
-            Mark::Given => {
-                if self.given >= GIVEN_MAX {
-                    return Some(Refusal::CatalogueLimit);
-                }
-                self.given += 1;
-                let _ = self.line.kinds.push(self.kind);
-                let _ = self.line.marks.push(Mark::Given);
-                self.stage = Stage::Columns;
-                None
-            }
-            Mark::Free => {
-                let _ = self.line.kinds.push(self.kind);
-                let _ = self.line.marks.push(Mark::Free);
-                self.stage = Stage::Columns;
-                None
-            }
-        }
-    }
-
-    fn take(&mut self, token: &[u8]) -> Option<Refusal>
-        ensures taken { (p : Part) → Tied self.old p → Taken self.new p token.now result }
-    {
-        let stage = self.stage;
-        match stage {
+        match self.stage {
             Stage::Lines => self.take_source(token),
-            Stage::Columns => self.take_gap(token),
-            Stage::Spaced => self.take_kind(token),
-            Stage::Kinded => self.take_colon(token),
-            Stage::Coloned => self.take_mark(token),
+            Stage::Columns(entry) => self.take_gap(entry, token),
+            Stage::Spaced(entry) => self.take_kind(entry, token),
+            Stage::Kinded(entry, kind) => take_colon(entry, kind, token),
+            Stage::Coloned(entry, kind) => take_mark(entry, kind, token),
         }
-    }
-
-    // What the end of the text gives.
-    fn finish(self, end: usize) -> Result<Catalogue, Flaw>
-        requires reading { (p : Part) × Tied self p }
-        ensures finished { (p : Part) → Tied self p → Finished end p result }
-    {
-        let stage = self.stage;
-        if let Stage::Lines = stage {
-            if self.columns.len() > 0 {
-                return Ok(Catalogue {
-                    kinds: self.kinds,
-                    names: self.names,
-                    columns: self.columns,
-                });
-            }
-        }
-        Err(Flaw {
-            refusal: Refusal::CatalogueForm,
-            place: end,
-        })
     }
 }
 
-// What the tokens of a text give, its length aside.
-pub(crate) fn read_tokens(text: &[u8]) -> Result<Catalogue, Flaw>
-    ensures gone { GoneThrough text.now result }
-{
-    let mut reader = Reader::new();
-    let mut place = 0;
-    while place < text.len() {
-        let end = token_end(text, place);
-        if let Some(refusal) = reader.take(&text[place..end]) {
-            return Err(Flaw { refusal, place });
-        }
-        place = end;
+impl TokenReader for Reader {
+    ghost use Rattle.catalogue.specs.Sheets.{sheets};
+    ghost use Rattle.catalogue.specs.Reading.{steps, Tied};
+
+    ghost Given = { Unit {0} };
+
+    ghost grammar = { λ _. sheets };
+
+    ghost steps = { λ _. steps };
+
+    ghost StandsBehind = { λ _ reader part. Tied reader part };
+
+    fn form() -> Refusal {
+        Refusal::CatalogueForm
     }
-    reader.finish(place)
+
+    fn limit() -> Refusal {
+        Refusal::CatalogueLimit
+    }
+
+    fn passes_over(_token: &[u8]) -> bool {
+        false
+    }
+
+    fn take(&mut self, token: &[u8]) -> Result<(), Refusal> {
+        self.stage = self.step(token)?;
+        Ok(())
+    }
+
+    fn is_whole(&self) -> bool {
+        matches!(self.stage, Stage::Lines) && self.entries.len() > 0
+    }
 }

@@ -1,9 +1,9 @@
 // The record of a catalogue.
 ghost use Rattle.std.specs.Prelude.{◌≡◌, ◌<◌, true, map};
 ghost use Rattle.bounded.specs.Held.{held};
-ghost use Rattle.catalogue.specs.Plain.{plain, all_shaped};
+ghost use Rattle.catalogue.specs.Plain.{entry_columns, all_shaped};
 
-use crate::columns::Columns;
+use crate::columns::Entry;
 use bounded::Bounded;
 use lexing::Name;
 
@@ -13,9 +13,7 @@ use lexing::Name;
 #[derive(Clone, Copy)]
 pub struct Catalogue {
     pub(crate) kinds: Bounded<Name, 16>,
-    pub(crate) names: Bounded<Name, 8>,
-    pub(crate) columns: Bounded<Columns, 8>,
-    ghost some: { 0 < columns.used },
-    ghost paired: { names.used ≡ columns.used },
-    ghost shaped: { all_shaped kinds.used (map plain (held columns)) ≡ true },
+    pub(crate) entries: Bounded<Entry, 8>,
+    ghost some: { 0 < entries.used },
+    ghost shaped: { all_shaped kinds.used (map entry_columns (held entries)) ≡ true },
 }

@@ -1,27 +1,27 @@
 // How far the text of a catalogue is read.
-use crate::columns::Columns;
+use crate::columns::Entry;
 use bounded::Bounded;
 use lexing::Name;
 
-// What stands in front: whole lines; a name or a column; a space; a kind; a colon.
+// What stands in front, and what is begun by it.
 #[derive(Clone, Copy)]
 pub(crate) enum Stage {
+    // Whole lines.
     Lines,
-    Columns,
-    Spaced,
-    Kinded,
-    Coloned,
+    // The name of a source or a column of its line.
+    Columns(Entry),
+    // A space behind these.
+    Spaced(Entry),
+    // A kind, by its number.
+    Kinded(Entry, u8),
+    // A colon behind it.
+    Coloned(Entry, u8),
 }
 
 #[derive(Clone, Copy)]
 pub(crate) struct Reader {
     pub(crate) stage: Stage,
+    // The kinds that appeared, and what the whole lines say.
     pub(crate) kinds: Bounded<Name, 16>,
-    pub(crate) names: Bounded<Name, 8>,
-    pub(crate) columns: Bounded<Columns, 8>,
-    // The columns of the line that is begun, and how many of them are given.
-    pub(crate) line: Columns,
-    pub(crate) given: usize,
-    // The kind of the column that is begun.
-    pub(crate) kind: u8,
+    pub(crate) entries: Bounded<Entry, 8>,
 }

@@ -1,13 +1,17 @@
 // Catalogues from their texts, and what they hold.
 ghost use Rattle.std.specs.Prelude.{◌≡◌, [], length, slice_index_or};
+ghost use Rattle.std.specs.List.{slice_get};
+ghost use Rattle.std.specs.Option.{option_map};
+ghost use Rattle.bounded.specs.Held.{held};
 ghost use Rattle.lexing.specs.Names.{place_of};
 ghost use Rattle.catalogue.specs.Records.{kind_names, source_names, columns_of};
 ghost use Rattle.catalogue.specs.Texts.{Read, OneAnswer};
 
-use crate::reader::read_tokens;
+use crate::columns::Entry;
 use crate::record::Catalogue;
-use faults::{Fault, Refusal};
-use lexing::{TEXT_MAX, position, with_length};
+use crate::state::Reader;
+use faults::Fault;
+use lexing::{Named, position, read};
 use source::Mark;
 
 impl Catalogue {
@@ -15,25 +19,18 @@ impl Catalogue {
     pub fn read(text: &[u8]) -> Result<Catalogue, Fault>
         ensures read { Read text.now result }
     {
-        match read_tokens(text) {
-            Ok(catalogue) => {
-                if text.len() > TEXT_MAX {
-                    return Err(Fault::placed(Refusal::CatalogueLimit, TEXT_MAX));
-                }
-                Ok(catalogue)
-            }
-            Err(flaw) => {
-                let first = with_length(flaw, text.len(), Refusal::CatalogueLimit);
-                Err(Fault::placed(first.refusal, first.place))
-            }
-        }
+        let reader = read(Reader::new(), text)?;
+        Ok(Catalogue {
+            kinds: reader.kinds,
+            entries: reader.entries,
+        })
     }
 
     // How many sources there are.
     pub fn source_count(&self) -> usize
         ensures value { result ≡ length (source_names self.now) }
     {
-        self.names.len()
+        self.entries.len()
     }
 
     // How many kinds there are.
@@ -47,11 +44,8 @@ impl Catalogue {
     pub fn source_name(&self, source: usize) -> &[u8]
         ensures value { result.now ≡ slice_index_or (source_names self.now) source [] }
     {
-        let names = self.names.as_slice();
-        if source >= names.len() {
-            return &[];
-        }
-        names[source].as_slice()
+        let entries = self.entries.as_slice();
+        entries.get(source).map_or(&[], |entry| entry.name())
     }
 
     // The name of a kind; empty where there is no such kind.
@@ -59,39 +53,34 @@ impl Catalogue {
         ensures value { result.now ≡ slice_index_or (kind_names self.now) kind [] }
     {
         let names = self.kinds.as_slice();
-        if kind >= names.len() {
-            return &[];
-        }
-        names[kind].as_slice()
+        names.get(kind).map_or(&[], |name| name.as_slice())
     }
 
     // The marks of a source's columns; none where there is no such source.
     pub fn marks(&self, source: usize) -> &[Mark]
         ensures value { result.now ≡ (columns_of self.now source).marks }
     {
-        let columns = self.columns.as_slice();
-        if source >= columns.len() {
-            return &[];
-        }
-        columns[source].marks.as_slice()
+        let entries = self.entries.as_slice();
+        entries
+            .get(source)
+            .map_or(&[], |entry| entry.columns.marks.as_slice())
     }
 
     // The numbers of the kinds of a source's columns; none where there is no such source.
     pub fn kinds(&self, source: usize) -> &[u8]
         ensures value { result.now ≡ (columns_of self.now source).kinds }
     {
-        let columns = self.columns.as_slice();
-        if source >= columns.len() {
-            return &[];
-        }
-        columns[source].kinds.as_slice()
+        let entries = self.entries.as_slice();
+        entries
+            .get(source)
+            .map_or(&[], |entry| entry.columns.kinds.as_slice())
     }
 
     // The number of the source that has a name.
     pub fn find_source(&self, name: &[u8]) -> Option<usize>
         ensures value { result ≡ place_of name.now (source_names self.now) }
     {
-        position(self.names.as_slice(), name)
+        position(self.entries.as_slice(), name)
     }
 
     // The number of the kind that has a name.

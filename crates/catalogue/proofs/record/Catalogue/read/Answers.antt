@@ -1,24 +1,22 @@
-use Rattle.std.proofs.Common.{ap, ◌∙◌}
-use Rattle.faults.specs.declared.refusal.Refusal.TheVariants.{CatalogueLimit}
-use Rattle.faults.specs.Faults.{placed}
-use Rattle.lexing.specs.declared.flaw.Flaw.{Flaw}
-use Rattle.lexing.proofs.Course.{accepted_so, over_so, refused_so}
-use Rattle.catalogue.specs.Sheets.{lines, sheets}
+use Rattle.std.proofs.lemmas.Result.{err_from_is_err_and}
+use Rattle.lexing.proofs.Course.{refused_read}
+use Rattle.catalogue.specs.Sheets.{sheets}
 use Rattle.catalogue.specs.Reading.{steps}
 use Rattle.catalogue.proofs.Laws.{lawful}
+use Rattle.catalogue.proofs.Answering.{whole_read, some_read, shaped_read}
 use Rattle.catalogue.proofs.record.Catalogue.read.Goals as goal
 
-pub returns-then-text-gt-TEXT_MAX : goal.returns-then-text-gt-TEXT_MAX
-returns-then-text-gt-TEXT_MAX c =
-    let g = c.in-Ok.ensures.gone in
-    record { read = (CatalogueLimit, 4096, over_so sheets steps lawful c.args.text.now (lines g.0) g.1 c.if-text-gt-TEXT_MAX.true, c.placed.ensures.value) }
+pub returns-in_err-reader : goal.returns-in_err-reader
+returns-in_err-reader c =
+    let p = err_from_is_err_and c.from_residual.result c.from_residual.ensures.1 in
+    record { read = rw p.1 (_, _, refused_read sheets steps lawful c.args.text.now c.in_err-reader.field-0.0 (c.in_err-reader.ensures.read tt c.new.ensures.tied), p.2) }
 
-pub returns-else-text-gt-TEXT_MAX : goal.returns-else-text-gt-TEXT_MAX
-returns-else-text-gt-TEXT_MAX c =
-    let g = c.in-Ok.ensures.gone in
-    record { read = (g.0, accepted_so sheets steps lawful c.args.text.now (lines g.0) g.1 c.if-text-gt-TEXT_MAX.false, g.2) }
+pub invariant_of-result : goal.invariant_of-result
+invariant_of-result c =
+    let h = c.in_ok-reader.ensures.read tt c.new.ensures.tied in
+    record { some = some_read c.args.text.now c.in_ok-reader.reader h; shaped = shaped_read c.args.text.now c.in_ok-reader.reader h }
 
-pub returns-in-Err : goal.returns-in-Err
-returns-in-Err c =
-    let f = c.with_length-first.ensures.value in
-    record { read = (_, _, refused_so sheets steps lawful c.args.text.now c.in-Err.flaw c.in-Err.ensures.gone, c.placed-in-Err.ensures.value ∙ ap (λ (x : Flaw). placed x.refusal x.place) f) }
+pub returns : goal.returns
+returns c =
+    let w = whole_read c.args.text.now c.in_ok-reader.reader (c.in_ok-reader.ensures.read tt c.new.ensures.tied) in
+    record { read = (w.lines_are, w.accepted, record { kinds = w.seen.kinds; names = w.seen.sources; columns = w.seen.lines }) }

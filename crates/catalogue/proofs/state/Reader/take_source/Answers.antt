@@ -1,19 +1,29 @@
-use Rattle.std.proofs.Common.{sym}
-use Rattle.catalogue.proofs.Taking.{ninth, twice, begins_line}
+use Rattle.std.proofs.Common.{List, map, length, sym, ap, ◌∙◌, arith}
+use Rattle.std.proofs.lemmas.Option.{MatchOption-at_some}
+use Rattle.lexing.specs.Names.{place_of}
+use Rattle.catalogue.specs.declared.columns.Entry.{Entry}
+use Rattle.catalogue.specs.Plain.{entry_name}
+use Rattle.catalogue.proofs.Taking.{was_some, ninth, twice, begins_line}
 use Rattle.catalogue.proofs.state.Reader.take_source.Goals as goal
 
-pub returns-then-len-ge-SOURCES_MAX : goal.returns-then-len-ge-SOURCES_MAX
-returns-then-len-ge-SOURCES_MAX c = record {
-  taken = λ ls tied. ninth c.args.self.now c.args.token.now ls tied (sym c.if-not-is_name.ensures.value) c.in-Some.ensures.value.0 c.len.result c.len.ensures.value _ c.if-len-ge-SOURCES_MAX.true;
-}
+pub returns-then-entries-ge-SOURCES_MAX : goal.returns-then-entries-ge-SOURCES_MAX
+returns-then-entries-ge-SOURCES_MAX c =
+    let n = MatchOption-at_some _ _ _ (was_some c.to_name.result _ _ c.in_ok-name.ensures.value) c.to_name.ensures.value in
+    let z = ap length c.as_slice-entries.ensures.value in
+    record { taken = λ ls s. ninth c.args.self.now c.args.token.now ls s (sym c.if-not-is_name.ensures.value) n.0 (omega arith) }
 
-pub returns-in-Some-position : goal.returns-in-Some-position
-returns-in-Some-position c = record {
-  taken = λ ls tied. twice c.args.self.now c.args.token.now ls tied (sym c.if-not-is_name.ensures.value) c.in-Some.ensures.value.0 c.len.result c.len.ensures.value c.if-len-ge-SOURCES_MAX.false _ _ _ c.as_slice.ensures.value c.in-Some-position.ensures.value;
-}
+pub returns-then-is_some : goal.returns-then-is_some
+returns-then-is_some c =
+    let n = MatchOption-at_some _ _ _ (was_some c.to_name.result _ _ c.in_ok-name.ensures.value) c.to_name.ensures.value in
+    let z = ap length c.as_slice-entries.ensures.value in
+    record {
+      taken = λ ls s. twice c.args.self.now c.args.token.now ls s (sym c.if-not-is_name.ensures.value) n.0 (omega arith) c.position.result (c.position.ensures.value ∙ ap (λ (l : List Entry). place_of c.args.token.now (map entry_name l)) c.as_slice-entries.ensures.value) (sym c.if-is_some.ensures);
+    }
 
 pub returns : goal.returns
-returns c = record {
-  taken = λ ls tied. begins_line c.args.self.now c.args.token.now ls tied (sym c.if-not-is_name.ensures.value) c.in-Some.ensures.value.0 c.len.result c.len.ensures.value c.if-len-ge-SOURCES_MAX.false
-      _ c.in-Some.name c.push.new.self c.no_columns-self.result _ c.push.result c.as_slice.ensures.value c.in_default-position.ensures.value c.in-Some.ensures.value.1 c.push.ensures.room c.push.ensures.items c.no_columns-self.ensures.kinds c.no_columns-self.ensures.marks;
-}
+returns c =
+    let n = MatchOption-at_some _ _ _ (was_some c.to_name.result _ _ c.in_ok-name.ensures.value) c.to_name.ensures.value in
+    let z = ap length c.as_slice-entries.ensures.value in
+    record {
+      taken = λ ls s. begins_line c.args.self.now c.args.token.now ls s (sym c.if-not-is_name.ensures.value) n.0 (omega arith) c.position.result (c.position.ensures.value ∙ ap (λ (l : List Entry). place_of c.args.token.now (map entry_name l)) c.as_slice-entries.ensures.value) (sym c.if-is_some.ensures) _ n.1 c.new-columns.ensures.kinds c.new-columns.ensures.marks;
+    }
