@@ -1,5 +1,5 @@
 -- How many items a bounded list holds, and what a push adds.
-use Rattle.std.proofs.Common.{◌≡◌, ℕ, ◌<◌, ◌≤◌, Bool, cond, ltb, List, [], ◌∷◌, ◌++◌, length, refl, ◌∙◌, arith, lt-ltb}
+use Rattle.std.proofs.Common.{◌≡◌, ℕ, ◌<◌, ◌≤◌, Bool, cond, ltb, [], ◌∷◌, ◌++◌, length, refl, ◌∙◌, arith, lt-ltb}
 use Rattle.std.proofs.lemmas.List.{length-take-le}
 use Rattle.bounded.specs.declared.list.Bounded.{Bounded}
 use Rattle.bounded.specs.Held.{held}

@@ -1,4 +1,5 @@
 ghost use Rattle.std.specs.Prelude.{◌≡◌, ◌+◌, ◌<◌, ◌≤◌, [], ◌∷◌, ◌++◌, length, if◌then◌else◌, nat_lt, MatchOption};
+ghost use Rattle.std.specs.Cmp.Lexicographic.{pointwise};
 ghost use Rattle.bounded.specs.Held.{held};
 
 use crate::list::Bounded;
@@ -58,4 +59,25 @@ impl<T: Copy, const N: usize> Bounded<T, N> {
     {
         &self.items[..self.used]
     }
+}
+
+impl<T: PartialEq + Copy, const N: usize> PartialEq for Bounded<T, N> {
+    ghost use Rattle.std.specs.Cmp.{on_per};
+    ghost use Rattle.std.specs.Cmp.Lexicographic.{lists_per};
+
+    ghost eq = { λ v w. pointwise T.eq (held v) (held w) };
+
+    ghost laws = { on_per held (lists_per T.laws) };
+
+    // Whether the items are the same; what stands in unused places does not count.
+    fn eq(&self, other: &Self) -> bool {
+        self.as_slice() == other.as_slice()
+    }
+}
+
+impl<T: Eq + Copy, const N: usize> Eq for Bounded<T, N> {
+    ghost use Rattle.std.specs.Cmp.{on_equiv};
+    ghost use Rattle.std.specs.Cmp.Lexicographic.{lists_equiv};
+
+    ghost laws = { on_equiv held (lists_equiv T.Eq.laws) };
 }
