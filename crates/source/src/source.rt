@@ -18,7 +18,8 @@ pub trait Source {
         ensures value { result.now ≡ (meaning self.now).marks };
 
     // Answers the rows that hold the inputs in their given columns: writes them from the start of
-    // the memory, and returns how many they are.
+    // the memory, and returns how many they are. The inputs and the memory are no struct: a caller
+    // has them apart, reads the one and writes the other, and would build it for each call.
     fn call(&mut self, inputs: &[u32], memory: &mut [u32]) -> Result<usize, Fault>
         ensures called { Called (meaning self.old) (meaning self.new) inputs.now memory.old memory.new result };
 
