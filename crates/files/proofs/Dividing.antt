@@ -1,19 +1,16 @@
 -- Values that stand one after another, cut into rows.
-use Rattle.std.proofs.Common.{◌≡◌, ℕ, zero, suc, ◌+◌, ◌-◌, ◌*◌, ◌/◌, ◌%◌, ◌^◌, ◌<◌, ◌≤◌, Bool, true, false, eqb, List, [], ◌∷◌, ◌++◌, length, get_or, take, drop, set, sym, refl, ap, ◌∙◌, subst, append_assoc, append-nil, suc-mul, div-add-mod', zero-mul, mul-div_cancel, arith, length-append, length-drop, length-set, take-append-drop, lt-ltb, eqb-true}
+use Rattle.std.proofs.Common.{◌≡◌, ℕ, zero, suc, ◌+◌, ◌*◌, ◌/◌, ◌%◌, ◌<◌, ◌≤◌, true, false, eqb, List, [], ◌∷◌, ◌++◌, length, take, drop, sym, refl, ap, ◌∙◌, append_assoc, append-nil, suc-mul, div-add-mod', zero-mul, mul-div_cancel, arith, length-append, length-drop, take-append-drop, eqb-true}
 use native.Mathlib.Nat.{mul-mod_left}
-use borrow.Author.Tests.{both_ways}
-use Rattle.std.proofs.lemmas.List.{length-take-le, drop-drop, take_at, drop_at}
-use Rattle.std.proofs.lemmas.Bool.{and_parts, and_from}
+use Rattle.std.proofs.lemmas.List.{length-take-le, take_at, drop_at, nil_from_length}
+use Rattle.std.proofs.lemmas.Bool.{and_parts, and_from, both_ways}
 use Rattle.source.specs.declared.mark.Mark.{Mark}
 use Rattle.source.specs.Rows.{all_values, ascending, flat}
 use Rattle.source.specs.Marks.{whole, all_whole}
 use Rattle.files.specs.Contents.{Header}
-use Rattle.files.specs.Held.{held_rows}
 use Rattle.files.specs.Making.{Divided}
-use Rattle.files.proofs.Reading.{values_split}
-use Rattle.files.proofs.Holding.{rows_more, rows_none}
+use Rattle.files.proofs.Pushing.{values_split, whole_row}
+use Rattle.files.proofs.Holding.{flat_push, flat-++}
 use Rattle.files.proofs.Ordering.{false_of, ascending_front}
-use Rattle.files.proofs.Fronts.{whole_row}
 
 -- how many rows
 pub not_whole : (values columns : ℕ) → 1 ≤ columns → (values % columns ≡ 0 → ⊥) → (count : ℕ) → count * columns ≡ values → count ≤ 1024 → ⊥
@@ -53,9 +50,6 @@ chop_whole ms (suc n) xs e s =
     let p = values_split (take c xs) (drop c xs) (rw (take-append-drop c xs) s) in
     and_from (whole ms (take c xs)) (all_whole ms (chop c n (drop c xs))) (whole_row ms (take c xs) (length-take-le c xs l) p.0) (chop_whole ms n (drop c xs) (omega (arith, length-drop c xs, suc-mul n c)) p.1)
 
-pub chop_divided : (ms : List Mark) (n : ℕ) (xs : List ℕ) → Header ms n → length xs ≡ n * length ms → all_values xs ≡ true → Divided ms xs (chop (length ms) n xs)
-chop_divided ms n xs h e s = record { header = subst (Header ms) (sym (chop_long (length ms) n xs)) h; rows_whole = chop_whole ms n xs e s; values_are = chop_flat (length ms) n xs e }
-
 -- whole rows of values are as many values as they have columns each
 pub whole_long : (ms : List Mark) (rows : List (List ℕ)) → all_whole ms rows ≡ true → length (flat rows) ≡ length rows * length ms
 whole_long ms [] e = sym (zero-mul (length ms))
@@ -63,10 +57,6 @@ whole_long ms (r ∷ rows) e =
     let p = and_parts (whole ms r) (all_whole ms rows) e in
     let l : length r ≡ length ms = eqb-true (length r) (length ms) (and_parts (eqb (length r) (length ms)) (all_values r) p.0).0 in
     omega (arith, length-append r (flat rows), whole_long ms rows p.1, suc-mul (length rows) (length ms))
-
-pub values_true : (xs : List ℕ) → ((i : ℕ) → get_or xs i 0 < 2 ^ 32) → all_values xs ≡ true
-values_true [] h = refl
-values_true (x ∷ xs) h = rw (lt-ltb x 4294967296 (h 0)) (values_true xs (λ i. h (suc i)))
 
 -- values are one list of rows at most
 pub divided_same : (ms : List Mark) (values : List ℕ) (rows rows' : List (List ℕ)) → Divided ms values rows → Divided ms values rows' → rows ≡ rows'
@@ -90,55 +80,60 @@ divided_same ms values rows rows' d d' = go rows rows' d.rows_whole d'.rows_whol
         let k : xs ≡ ys = go xs ys a.1 b.1 j in
         cc
 
--- the first rows are in the cells, and the others are to be cut from here on
-pub record Cutting (c n : ℕ) (values : List ℕ) (i at : ℕ) (cells : List (List ℕ)) : Type 0 where
-  pub long : length cells ≡ 1024
-  pub left : at + (n - i) * c ≡ length values
-  pub rows_are : held_rows c i cells ++ chop c (n - i) (drop at values) ≡ chop c n values
-  pub ascends : ascending (held_rows c i cells) ≡ true
+-- a row of what is left has values in range
+pub values_cut : {values left : List ℕ} (rows : List (List ℕ)) → flat rows ++ left ≡ values → (row rest : List ℕ) → left ≡ row ++ rest → all_values values ≡ true → all_values row ≡ true
+values_cut {values} {left} rows e row rest f s = (values_split row rest (rw f at ((values_split (flat rows) left (rw e s)).1))).0
 
-pub cutting_none : (c n : ℕ) (values : List ℕ) (cells : List (List ℕ)) → length cells ≡ 1024 → n * c ≡ length values → Cutting c n values 0 0 cells
-cutting_none c n values cells l e =
-    let z : n - 0 ≡ n = omega arith in
-    record { long = l; left = rw z (omega arith); rows_are = rw (z, rows_none c cells) refl; ascends = rw (rows_none c cells) refl }
+-- the first values are in the rows, and the others are to be cut
+pub record Cutting (ms : List Mark) (values : List ℕ) (rows : List (List ℕ)) (left : List ℕ) : Type 0 where
+  pub more : ℕ
+  pub left_whole : length left ≡ more * length ms
+  pub few : length rows + more ≤ 1024
+  pub values_are : flat rows ++ left ≡ values
 
-module _ {c n : ℕ} {values : List ℕ} {i at : ℕ} {cells : List (List ℕ)} (inside : i < n) (few : n ≤ 1024) (cutting : Cutting c n values i at cells) where
-  pub row_inside : at + c ≤ length values
-  row_inside =
-      let k : n - i ≡ suc (n - (i + 1)) = omega arith in
-      omega (arith, cutting.left, ap (λ (x : ℕ). x * c) k, suc-mul (n - (i + 1)) c)
+pub cutting_none : (ms : List Mark) (values : List ℕ) → length values % length ms ≡ 0 → length values / length ms ≤ 1024 → Cutting ms values [] values
+cutting_none ms values z h = record { more = length values / length ms; left_whole = sym (count_is (length values) (length ms) z); few = omega arith; values_are = refl }
 
-  next : chop c (n - i) (drop at values) ≡ take c (drop at values) ∷ chop c (n - (i + 1)) (drop (at + c) values)
-  unfolding chop
-  next =
-      let k : n - i ≡ suc (n - (i + 1)) = omega arith in
-      ap (λ (x : ℕ). chop c x (drop at values)) k ∙ ap (λ (x : List ℕ). take c (drop at values) ∷ chop c (n - (i + 1)) x) (drop-drop c at values)
+module _ {ms : List Mark} {values : List ℕ} {rows : List (List ℕ)} {left : List ℕ} (some : 1 ≤ length ms) (cutting : Cutting ms values rows left) where
+  -- a row of what is left
+  module _ (row rest : List ℕ) (first : left ≡ row ++ rest) (wide : length row ≡ length ms) where
+    split : (k : ℕ) → length left ≡ k * length ms → (j : ℕ) × (k ≡ suc j) × (length rest ≡ j * length ms)
+    split zero e = absurd (omega (arith, ap length first, length-append row rest, zero-mul (length ms)))
+    split (suc k) e = (k, refl, omega (arith, ap length first, length-append row rest, suc-mul k (length ms)))
 
-  pub cut_front : (row : List ℕ) → take c row ≡ take c (drop at values) → (held_rows c i cells ++ take c row ∷ []) ++ chop c (n - (i + 1)) (drop (at + c) values) ≡ chop c n values
-  cut_front row e =
-      append_assoc (held_rows c i cells) (take c row ∷ []) (chop c (n - (i + 1)) (drop (at + c) values)) ∙ rw (e, ← next) cutting.rows_are
+    pub cutting_more : Cutting ms values (rows ++ row ∷ []) rest
+    cutting_more =
+        let s = split cutting.more cutting.left_whole in
+        record {
+          more = s.0;
+          left_whole = s.2;
+          few = omega (arith, cutting.few, s.1, length-append rows (row ∷ []));
+          values_are = rw (flat_push rows row, append_assoc (flat rows) row rest, ← first) cutting.values_are;
+        }
 
-  pub cutting_more : (row : List ℕ) (b : Bool) → take c row ≡ take c (drop at values) → b ≡ ascending (held_rows c i cells ++ take c row ∷ []) → b ≡ true → Cutting c n values (i + 1) (at + c) (set cells i row)
-  cutting_more row b e f t =
-      let u : i < length cells = omega (arith, cutting.long) in
-      let k : n - i ≡ suc (n - (i + 1)) = omega arith in
+  none_left : (k : ℕ) → length left ≡ k * length ms → length left < length ms → k ≡ 0
+  none_left zero e h = refl
+  none_left (suc k) e h = absurd (omega (arith, suc-mul k (length ms)))
+
+  pub cutting_all : Header ms (length rows) → length left < length ms → all_whole ms rows ≡ true → Divided ms values rows
+  cutting_all header h w =
+      let z : cutting.more ≡ 0 = none_left cutting.more cutting.left_whole h in
+      let e : left ≡ [] = nil_from_length left (cutting.left_whole ∙ ap (λ (k : ℕ). k * length ms) z ∙ zero-mul (length ms)) in
+      record { header = header; rows_whole = w; values_are = sym (append-nil (flat rows)) ∙ rw (← e) cutting.values_are }
+
+  -- the rows, and what is left cut into rows
+  pub whole_cut : ((n : ℕ) → n ≤ 1024 → Header ms n) → all_values values ≡ true → all_whole ms rows ≡ true → Divided ms values (rows ++ chop (length ms) cutting.more left)
+  whole_cut header s w =
+      let values_left = (values_split (flat rows) left (rw cutting.values_are s)).1 in
       record {
-        long = length-set cells i row ∙ cutting.long;
-        left = omega (arith, cutting.left, ap (λ (x : ℕ). x * c) k, suc-mul (n - (i + 1)) c);
-        rows_are = rw (rows_more c i cells row u) (cut_front row e);
-        ascends = rw (rows_more c i cells row u) (sym f ∙ t);
+        header = header (length (rows ++ chop (length ms) cutting.more left)) (omega (arith, cutting.few, length-append rows (chop (length ms) cutting.more left), chop_long (length ms) cutting.more left));
+        rows_whole = whole_both rows (chop (length ms) cutting.more left) w (chop_whole ms cutting.more left cutting.left_whole values_left);
+        values_are = flat-++ rows (chop (length ms) cutting.more left) ∙ ap (λ (x : List ℕ). flat rows ++ x) (chop_flat (length ms) cutting.more left cutting.left_whole) ∙ cutting.values_are;
       }
-
-  pub cut_falls : (row : List ℕ) (b : Bool) → take c row ≡ take c (drop at values) → b ≡ ascending (held_rows c i cells ++ take c row ∷ []) → b ≡ false → ascending (chop c n values) ≡ false
-  cut_falls row b e f t = false_of (ascending (chop c n values)) (λ a. clash (ascending_front (held_rows c i cells ++ take c row ∷ []) (chop c (n - (i + 1)) (drop (at + c) values)) (ap ascending (cut_front row e) ∙ a)))
     where
-      clash : ascending (held_rows c i cells ++ take c row ∷ []) ≡ true → ⊥
-      clash a = both_ways b t (f ∙ a)
+      whole_both : (xs ys : List (List ℕ)) → all_whole ms xs ≡ true → all_whole ms ys ≡ true → all_whole ms (xs ++ ys) ≡ true
+      whole_both [] ys p q = q
+      whole_both (x ∷ xs) ys p q = let r = and_parts (whole ms x) (all_whole ms xs) p in and_from (whole ms x) (all_whole ms (xs ++ ys)) r.0 (whole_both xs ys r.1 q)
 
-pub cutting_all : {c n : ℕ} {values : List ℕ} {i at : ℕ} {cells : List (List ℕ)} → n ≤ i → i ≤ n → Cutting c n values i at cells → held_rows c n cells ≡ chop c n values
-unfolding chop
-cutting_all {c} {n} {values} {i} {at} {cells} h l t =
-    let e : i ≡ n = omega arith in
-    let z : n - i ≡ 0 = omega arith in
-    let r : held_rows c i cells ++ chop c 0 (drop at values) ≡ chop c n values = rw z at t.rows_are in
-    ap (λ (x : ℕ). held_rows c x cells) (sym e) ∙ sym (append-nil (held_rows c i cells)) ∙ r
+  pub cut_falls : ascending rows ≡ false → ascending (rows ++ chop (length ms) cutting.more left) ≡ false
+  cut_falls f = false_of (ascending (rows ++ chop (length ms) cutting.more left)) (λ a. both_ways (ascending rows) f (ascending_front rows (chop (length ms) cutting.more left) a))

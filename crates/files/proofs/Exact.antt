@@ -21,7 +21,8 @@ use Rattle.files.proofs.Packing.{bit_few, bits_few}
 use Rattle.files.proofs.Holding.{flat_push}
 use Rattle.files.proofs.Ordering.{false_of, ascending_front}
 use Rattle.files.proofs.Matching.{crowd_matches}
-use Rattle.files.proofs.Reading.{values_one, values-++, values_split}
+use Rattle.files.proofs.Pushing.{values_split}
+use Rattle.files.proofs.Reading.{values_one, values-++}
 use Rattle.files.proofs.Heads.{begun_none, begun_columns, begun_count, first_is, second_is, third_is}
 
 abbrev Out : Type 0

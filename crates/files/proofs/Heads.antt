@@ -1,6 +1,6 @@
 -- The header.
-use Rattle.std.proofs.Common.{◌≡◌, ℕ, zero, suc, ◌+◌, ◌<◌, ◌≤◌, ◌⊎◌, List, [], ◌∷◌, length, drop, replicate, sym, refl, ap, ◌∙◌, subst, inl, inr, arith}
-use Rattle.std.proofs.lemmas.List.{length-take-le, length-replicate}
+use Rattle.std.proofs.Common.{◌≡◌, ℕ, zero, suc, ◌+◌, ◌<◌, ◌≤◌, ◌⊎◌, List, [], ◌∷◌, length, drop, replicate, sym, refl, ap, subst, inl, inr, arith}
+use Rattle.std.proofs.lemmas.List.{length-replicate}
 use Rattle.faults.specs.declared.fault.Fault.{Fault}
 use Rattle.faults.specs.declared.refusal.Refusal.TheVariants.{NumberForm, HeaderRange}
 use Rattle.faults.specs.Faults.{placed}
@@ -9,12 +9,12 @@ use Rattle.source.specs.declared.mark.Mark.TheVariants.{Free}
 use Rattle.source.specs.Marks.{inputs_of}
 use Rattle.numbers.specs.Forms.{NoNumber, Number}
 use Rattle.numbers.proofs.Encoding.{number_long, encode_few}
+use Rattle.bounded.proofs.Holding.{length_most}
 use Rattle.files.specs.declared.columns.Columns.{Columns}
 use Rattle.files.specs.Contents.{Header, bits}
-use Rattle.files.specs.Held.{held_marks}
+use Rattle.files.specs.Held.{columns_marks}
 use Rattle.files.specs.Refusing.{Begun, Front, Refuses}
 use Rattle.files.specs.Refusing.Refuses.{header_cut, header_range}
-use Rattle.files.specs.Steps.{Sound}
 use Rattle.files.proofs.Reading.{reads_none, reads_one, reads_join, reads_first}
 
 pub told : {bytes : List ℕ} {f g : Fault} → f ≡ g → Refuses bytes g → Refuses bytes f
@@ -82,17 +82,14 @@ pub front_0 : {bytes : List ℕ} {ms : List Mark} {a b n d : ℕ} → Header ms 
 front_0 h n k x = record { header = h; rows_whole = refl; ascends = refl; most = omega arith; reads = reads_join (reads_join (reads_first n) (reads_one k)) (reads_one x) }
 
 -- the columns that were read
-pub sound_long : {cs : Columns} → Sound cs → length (held_marks cs.width cs.marks) ≡ cs.width
-sound_long {cs} s = length-take-le cs.width cs.marks (omega (arith, s.cells, s.four_columns))
+pub columns_header : (cs : Columns) {n : ℕ} → n ≤ 1024 → Header (columns_marks cs) n
+columns_header cs h = record { some_column = cs.some; four_columns = length_most cs.marks; three_given = cs.given; few_rows = h }
 
-pub sound_header : {cs : Columns} {n : ℕ} → Sound cs → n ≤ 1024 → Header (held_marks cs.width cs.marks) n
-sound_header {cs} s h = record { some_column = omega (arith, sound_long s, s.some_column); four_columns = omega (arith, sound_long s, s.four_columns); three_given = s.three_given; few_rows = h }
+pub width_read : {bytes : List ℕ} {c at a : ℕ} (ms : List Mark) → length ms ≡ c → Number bytes at c a → Number bytes at (length ms) a
+width_read {bytes} {c} {at} {a} ms e n = subst (λ (x : ℕ). Number bytes at x a) (sym e) n
 
-pub width_read : {bytes : List ℕ} {c at a : ℕ} {cs : Columns} → Sound cs → cs.width ≡ c → Number bytes at c a → Number bytes at (length (held_marks cs.width cs.marks)) a
-width_read {bytes} {c} {at} {a} s e n = subst (λ (x : ℕ). Number bytes at x a) (sym (sound_long s ∙ e)) n
-
-pub bits_read : {bytes : List ℕ} {m at a : ℕ} (cs : Columns) → bits (held_marks cs.width cs.marks) ≡ m → Number bytes at m a → Number bytes at (bits (held_marks cs.width cs.marks)) a
-bits_read {bytes} {m} {at} {a} cs e n = subst (λ (x : ℕ). Number bytes at x a) (sym e) n
+pub bits_read : {bytes : List ℕ} {m at a : ℕ} (ms : List Mark) → bits ms ≡ m → Number bytes at m a → Number bytes at (bits ms) a
+bits_read {bytes} {m} {at} {a} ms e n = subst (λ (x : ℕ). Number bytes at x a) (sym e) n
 
 pub number_few : {bytes : List ℕ} {at n k : ℕ} → Number bytes at n k → k ≤ 5
 number_few {bytes} {at} {n} r = omega (arith, encode_few n, number_long r)

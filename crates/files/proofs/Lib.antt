@@ -1,14 +1,15 @@
 pub mod Packing
-pub mod Holding
+pub mod Pushing
 pub mod Ordering
+pub mod Holding
 pub mod Matching
 pub mod Reading
 pub mod Heads
 pub mod Fronts
 pub mod Sizes
+pub mod Filling
 pub mod Ends
 pub mod Dividing
 pub mod Storing
 pub mod Exact
 pub mod Answering
-pub mod Filling

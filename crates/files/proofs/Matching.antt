@@ -1,36 +1,26 @@
 -- Rows with the same inputs.
-use Rattle.std.proofs.Common.{◌≡◌, ℕ, zero, suc, ◌+◌, ◌<◌, ◌≤◌, Bool, true, false, cond, eqb, ◌⊎◌, List, [], ◌∷◌, ◌++◌, length, get_or, take, drop, sym, refl, ap, ◌∙◌, subst, inl, inr, arith, take-append-drop, eq-eqb, ne_eqb, eqb-true}
-use Rattle.std.proofs.lemmas.List.{drop_more, drop_all, take_more, take_all}
+use Rattle.std.proofs.Common.{◌≡◌, ℕ, zero, suc, ◌+◌, ◌<◌, ◌≤◌, Bool, true, false, ◌&&◌, ◌||◌, cond, eqb, List, [], ◌∷◌, ◌++◌, length, get_or, take, drop, sym, refl, ap, ◌∙◌, subst, inl, inr, arith, take-append-drop, eq-eqb, eqb-true}
+use Rattle.std.proofs.lemmas.List.{take_more, take_all, take-map, get_or-map}
+use Rattle.std.proofs.lemmas.List.Sums.{sum_by-cons}
+use Rattle.std.specs.List.{zip, list_all, count_by}
 use Rattle.std.proofs.lemmas.Bool.{cond-true, cond-false, and_parts, cases_Bool}
 use Rattle.source.specs.declared.mark.Mark.{Mark}
 use Rattle.source.specs.declared.mark.Mark.TheVariants.{Given, Free}
 use Rattle.source.specs.Rows.{same}
-use Rattle.source.specs.Marks.{picked, matches, matching}
-use Rattle.files.specs.Contents.{bit}
-use Rattle.files.specs.Held.{held_rows}
-use Rattle.files.specs.Refusing.{earlier, Crowded}
-use Rattle.files.proofs.Holding.{rows_next, rows_none, take_rows, row_at, length_rows}
+use Rattle.source.specs.Marks.{same_mark, picked, matches, matching}
+use Rattle.files.specs.Held.{cut}
+use Rattle.files.specs.Refusing.{earlier}
 
--- two rows column by column
-equal_at : (m : Mark) (ms : List Mark) (x y : ℕ) (a b : List ℕ) → (bit m ≡ 1 → ⊥) ⊎ (x ≡ y) → matches ms (picked ms b) a ≡ matches (m ∷ ms) (picked (m ∷ ms) (y ∷ b)) (x ∷ a)
-equal_at Free ms x y a b e = refl
-equal_at Given ms x y a b (inl n) = absurd (n refl)
-equal_at Given ms x y a b (inr e) = rw (eq-eqb x y e) refl
+-- two rows agree in a column, if it is given
+abbrev pub agrees : Mark × (ℕ × ℕ) → Bool
+agrees p = same_mark p.0 Free || eqb p.1.0 p.1.1
 
-differ_at : (m : Mark) (ms : List Mark) (x y : ℕ) (a b : List ℕ) → bit m ≡ 1 → (x ≡ y → ⊥) → false ≡ matches (m ∷ ms) (picked (m ∷ ms) (y ∷ b)) (x ∷ a)
-differ_at Free ms x y a b e n = absurd (omega arith)
-differ_at Given ms x y a b e n = rw (ne_eqb x y n) refl
-
-pub inputs_equal : (ms : List Mark) (a b : List ℕ) (i : ℕ) → i < length ms → i < length a → i < length b → (bit (get_or ms i Given) ≡ 1 → ⊥) ⊎ (get_or a i 0 ≡ get_or b i 0) → matches (drop (i + 1) ms) (picked (drop (i + 1) ms) (drop (i + 1) b)) (drop (i + 1) a) ≡ matches (drop i ms) (picked (drop i ms) (drop i b)) (drop i a)
-inputs_equal ms a b i h k l e =
-    rw (drop_more ms i Given h, drop_more a i 0 k, drop_more b i 0 l) (equal_at (get_or ms i Given) (drop (i + 1) ms) (get_or a i 0) (get_or b i 0) (drop (i + 1) a) (drop (i + 1) b) e)
-
-pub inputs_differ : (ms : List Mark) (a b : List ℕ) (i : ℕ) → i < length ms → i < length a → i < length b → bit (get_or ms i Given) ≡ 1 → (get_or a i 0 ≡ get_or b i 0 → ⊥) → false ≡ matches (drop i ms) (picked (drop i ms) (drop i b)) (drop i a)
-inputs_differ ms a b i h k l e n =
-    rw (drop_more ms i Given h, drop_more a i 0 k, drop_more b i 0 l) (differ_at (get_or ms i Given) (drop (i + 1) ms) (get_or a i 0) (get_or b i 0) (drop (i + 1) a) (drop (i + 1) b) e n)
-
-pub inputs_all : (ms : List Mark) (a b : List ℕ) (i : ℕ) → length ms ≤ i → true ≡ matches (drop i ms) (picked (drop i ms) (drop i b)) (drop i a)
-inputs_all ms a b i h = rw (drop_all i ms h) refl
+pub agrees_all : (ms : List Mark) (a b : List ℕ) → length ms ≤ length a → length ms ≤ length b → list_all agrees (zip ms (zip a b)) ≡ matches ms (picked ms b) a
+agrees_all [] a b h k = refl
+agrees_all (m ∷ ms) [] b h k = absurd (omega arith)
+agrees_all (m ∷ ms) (x ∷ a) [] h k = absurd (omega arith)
+agrees_all (Given ∷ ms) (x ∷ a) (y ∷ b) h k = ap (λ (t : Bool). eqb x y && t) (agrees_all ms a b (omega arith) (omega arith))
+agrees_all (Free ∷ ms) (x ∷ a) (y ∷ b) h k = agrees_all ms a b (omega arith) (omega arith)
 
 -- the cells behind the columns are no inputs
 pub picked_take : (ms : List Mark) (row : List ℕ) → picked ms (take (length ms) row) ≡ picked ms row
@@ -59,29 +49,20 @@ matching_front ms inputs rows k =
     let e : length (matching ms inputs (take k rows ++ drop k rows)) ≡ length (matching ms inputs rows) = ap (λ (x : List (List ℕ)). length (matching ms inputs x)) (take-append-drop k rows) in
     omega (arith, matching-++ ms inputs (take k rows) (drop k rows))
 
-pub count_none : (ms : List Mark) (inputs : List ℕ) (c : ℕ) (cells : List (List ℕ)) → 0 ≡ length (matching ms inputs (held_rows c 0 cells))
-count_none ms inputs c cells = rw (rows_none c cells) refl
-
-pub count_next : (ms : List Mark) (inputs : List ℕ) (j n : ℕ) (cells : List (List ℕ)) (b : Bool) → j < length cells → n ≡ length (matching ms inputs (held_rows (length ms) j cells)) → b ≡ matches ms inputs (get_or cells j []) → n + cond b 1 0 ≡ length (matching ms inputs (held_rows (length ms) (j + 1) cells))
-count_next ms inputs j n cells b h e f =
-    let row : List ℕ = take (length ms) (get_or cells j []) in
-    let g : matches ms inputs row ≡ b = ap (λ (x : List ℕ). same x inputs) (picked_take ms (get_or cells j [])) ∙ sym f in
-    rw (rows_next (length ms) j cells h, matching_push ms inputs (held_rows (length ms) j cells) row, g, e) refl
+-- so many rows in cells match
+pub count_matching : (ms : List Mark) (inputs : List ℕ) (cells : List (List ℕ)) → count_by (matches ms inputs) cells ≡ length (matching ms inputs (cut (length ms) cells))
+count_matching ms inputs [] = refl
+count_matching ms inputs (r ∷ cells) =
+    let m : matches ms inputs (take (length ms) r) ≡ matches ms inputs r = ap (λ (x : List ℕ). same x inputs) (picked_take ms r) in
+    sum_by-cons (λ (x : List ℕ). cond (matches ms inputs x) 1 0) r cells ∙ rw (count_matching ms inputs cells, ← m) (sym (long_cond (matches ms inputs (take (length ms) r)) (take (length ms) r) (matching ms inputs (cut (length ms) cells))))
 
 -- the rows before a row with its inputs
-earlier_at : (ms : List Mark) (k n : ℕ) (cells : List (List ℕ)) → k < n → n ≤ length cells → length (earlier ms (held_rows (length ms) n cells) k) ≡ length (matching ms (picked ms (get_or cells k [])) (held_rows (length ms) k cells))
-earlier_at ms k n cells h l =
-    let u : k ≤ n = omega arith in
-    rw (row_at (length ms) k n cells h l, take_rows (length ms) k n cells u, picked_take ms (get_or cells k [])) refl
+pub earlier_at : (ms : List Mark) (i : ℕ) (cells : List (List ℕ)) (d : List ℕ) → i < length cells → length (earlier ms (cut (length ms) cells) i) ≡ length (matching ms (picked ms (get_or cells i d)) (cut (length ms) (take i cells)))
+earlier_at ms i cells d h = rw (get_or-map (take (length ms)) cells i d [] h, take-map (take (length ms)) i cells, picked_take ms (get_or cells i d)) refl
 
-pub crowded_at : (ms : List Mark) (k n x : ℕ) (cells : List (List ℕ)) → k < n → n ≤ length cells → x ≡ length (matching ms (picked ms (get_or cells k [])) (held_rows (length ms) k cells)) → 64 ≤ x → ((j : ℕ) → j < k → length (earlier ms (held_rows (length ms) n cells) j) < 64) → Crowded ms (held_rows (length ms) n cells) k
-crowded_at ms k n x cells h l e s f = record { inside = rw (length_rows (length ms) n cells l) h; many = omega (arith, earlier_at ms k n cells h l); first = f }
-
-pub uncrowded_at : (ms : List Mark) (k n x : ℕ) (cells : List (List ℕ)) → k < n → n ≤ length cells → x ≡ length (matching ms (picked ms (get_or cells k [])) (held_rows (length ms) k cells)) → x < 64 → length (earlier ms (held_rows (length ms) n cells) k) < 64
-uncrowded_at ms k n x cells h l e s = omega (arith, earlier_at ms k n cells h l)
-
-pub uncrowded_all : (ms : List Mark) (k n : ℕ) (cells : List (List ℕ)) → n ≤ k → n ≤ length cells → ((j : ℕ) → j < k → length (earlier ms (held_rows (length ms) n cells) j) < 64) → (j : ℕ) → j < length (held_rows (length ms) n cells) → length (earlier ms (held_rows (length ms) n cells) j) < 64
-uncrowded_all ms k n cells h l f j i = f j (omega (arith, length_rows (length ms) n cells l))
+-- the same, by a count over the rows in cells
+pub earlier_counted : (ms : List Mark) (i n : ℕ) (cells items front : List (List ℕ)) → items ≡ cells → front ≡ cells → i < length items → n ≡ length (matching ms (picked ms (get_or items i [])) (cut (length ms) (take i front))) → n ≡ length (earlier ms (cut (length ms) cells) i)
+earlier_counted ms i n cells items front e f h c = c ∙ rw (e, f) (sym (earlier_at ms i cells [] (subst (λ (x : List (List ℕ)). i < length x) e h)))
 
 -- if no row has 64 earlier ones with its inputs, at most 64 rows match any inputs
 same_true : (xs ys : List ℕ) → same xs ys ≡ true → xs ≡ ys

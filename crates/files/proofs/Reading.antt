@@ -6,6 +6,7 @@ use Rattle.source.specs.Rows.{all_values}
 use Rattle.numbers.specs.Forms.{Number, encodes}
 use Rattle.numbers.proofs.Encoding.{encodes-++, encodes_one, number_bytes, number_long}
 use Rattle.files.specs.Refusing.{Reads}
+use Rattle.files.proofs.Pushing.{values_split}
 
 pub values_one : (n : ℕ) → n < 2 ^ 32 → all_values (n ∷ []) ≡ true
 values_one n h = rw (lt-ltb n 4294967296 h) refl
@@ -42,13 +43,6 @@ one_more bytes at to n k i cells h r m = rw (take_more_set cells i n h) (reads_j
 
 pub reads_first : {bytes : List ℕ} {n k : ℕ} → Number bytes 0 n k → Reads bytes 0 (n ∷ []) k
 reads_first {bytes} {n} {k} h = subst (Reads bytes 0 (n ∷ [])) (zero-add k) (reads_one h)
-
-pub values_split : (xs ys : List ℕ) → all_values (xs ++ ys) ≡ true → (all_values xs ≡ true) × (all_values ys ≡ true)
-values_split [] ys e = (refl, e)
-values_split (a ∷ xs) ys e =
-    let p = and_parts (ltb a (2 ^ 32)) (all_values (xs ++ ys)) e in
-    let q = values_split xs ys p.1 in
-    (and_from (ltb a (2 ^ 32)) (all_values xs) p.0 q.0, q.1)
 
 -- the first of the numbers that stand from the start on, in two parts
 pub reads_front : {bytes : List ℕ} {p q s : ℕ} (xs ys zs : List ℕ) → q ≡ 0 + length (encodes xs) → s ≡ length (encodes ys) → Reads bytes 0 (xs ++ (ys ++ zs)) p → Reads bytes 0 (xs ++ ys) (q + s)

@@ -1,17 +1,18 @@
--- What a table holds in its cells.
+-- What columns hold, and rows under columns.
 use Rattle.std.specs.Prelude.{ℕ, List, map, length, take}
+use Rattle.bounded.specs.declared.list.Bounded.{Bounded}
+use Rattle.bounded.specs.Held.{held}
 use Rattle.source.specs.declared.mark.Mark.{Mark}
-use Rattle.numbers.specs.Forms.{encodes}
-use Rattle.files.specs.Contents.{numbers}
+use Rattle.files.specs.declared.columns.Columns.{Columns}
 
--- the marks of the columns: the first of the cells for marks
-abbrev pub held_marks : ℕ → List Mark → List Mark
-held_marks columns marks = take columns marks
+-- the marks of the columns
+abbrev pub columns_marks : Columns → List Mark
+columns_marks c = held c.marks
 
--- the rows: the first columns of the first cells for rows
-unfoldable pub held_rows : ℕ → ℕ → List (List ℕ) → List (List ℕ)
-held_rows columns count cells = map (take columns) (take count cells)
+-- the rows of so many columns that stand in cells
+abbrev pub cut : ℕ → List (List ℕ) → List (List ℕ)
+cut columns cells = map (take columns) cells
 
--- the file of marks and of the rows in these cells
-abbrev pub file_of : List Mark → List (List ℕ) → List ℕ
-file_of marks cells = encodes (numbers marks (length cells) (held_rows (length marks) (length cells) cells))
+-- the rows under these columns that stand in the cells of a list
+abbrev pub held_rows : {n : ℕ} → Columns → Bounded (List ℕ) n → List (List ℕ)
+held_rows c cells = cut (length (columns_marks c)) (held cells)

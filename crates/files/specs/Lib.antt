@@ -1,5 +1,6 @@
 pub mod Contents
 pub mod Held
+pub mod Listed
 pub mod Refusing
 pub mod Making
 pub mod Steps

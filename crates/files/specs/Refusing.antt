@@ -1,5 +1,5 @@
 -- When bytes are no file, and with which fault they are refused.
-use Rattle.std.specs.Prelude.{◌≡◌, ℕ, ◌+◌, ◌<◌, ◌≤◌, true, false, List, [], ◌∷◌, ◌++◌, length, take, drop, slice_index_or}
+use Rattle.std.specs.Prelude.{◌≡◌, ℕ, ◌+◌, ◌<◌, ◌≤◌, true, false, List, [], ◌∷◌, ◌++◌, length, take, drop, Some, None, Option, slice_index_or}
 use Rattle.faults.specs.declared.fault.Fault.{Fault}
 use Rattle.faults.specs.declared.refusal.Refusal.TheVariants.{NumberForm, HeaderRange, RowsNotAscending, TooManyMatches, BytesLeftOver}
 use Rattle.faults.specs.Faults.{placed}
@@ -63,3 +63,8 @@ pub data Refuses (bytes : List ℕ) : Fault → Type 0 where
   left_over : {marks : List Mark} {p : ℕ} {rows : List (List ℕ)} → Front bytes marks (length rows) rows p → p < length bytes → Refuses bytes (placed BytesLeftOver p)
   -- a row has too many earlier rows with its inputs
   crowded : {marks : List Mark} {i p : ℕ} {rows : List (List ℕ)} → Front bytes marks (length rows) rows (length bytes) → Crowded marks rows i → Reads bytes 0 (numbers marks (length rows) (take i rows)) p → Refuses bytes (placed TooManyMatches p)
+
+-- the first row that has 64 earlier rows with its inputs, or that there is none
+abbrev pub CrowdFound : List Mark → List (List ℕ) → Option ℕ → Type 0
+CrowdFound marks rows (Some i) = Crowded marks rows i
+CrowdFound marks rows None = (j : ℕ) → j < length rows → length (earlier marks rows j) < 64

@@ -1,24 +1,24 @@
 -- What a table holds, and what is answered with a table.
-use Rattle.std.specs.Prelude.{◌≡◌, ℕ, List, take, Ok, Err, Result}
+use Rattle.std.specs.Prelude.{◌≡◌, ℕ, List, Ok, Err, Result}
 use Rattle.faults.specs.declared.fault.Fault.{Fault}
 use Rattle.source.specs.declared.mark.Mark.{Mark}
 use Rattle.source.specs.Rows.{flat}
 use Rattle.files.specs.declared.table.Table.{Table}
 use Rattle.files.specs.Contents.{FileOf}
-use Rattle.files.specs.Held.{held_marks, held_rows}
+use Rattle.files.specs.Listed.{rows_marks, rows_cells, rows_values}
 use Rattle.files.specs.Refusing.{Refuses}
 use Rattle.files.specs.Making.{Unfit}
 
 -- the marks of its columns, and its rows
 abbrev pub table_marks : Table → List Mark
-table_marks t = held_marks t.columns t.marks
+table_marks t = rows_marks t.rows
 
 abbrev pub table_rows : Table → List (List ℕ)
-table_rows t = held_rows t.columns t.count t.rows
+table_rows t = rows_values t.rows
 
 -- its rows as they stand in cells of four, of which the columns are the first
 abbrev pub table_cells : Table → List (List ℕ)
-table_cells t = take t.count t.rows
+table_cells t = rows_cells t.rows
 
 -- the bytes are the file of what the table holds, or are refused
 abbrev pub Opened : List ℕ → Result Table Fault → Type 0

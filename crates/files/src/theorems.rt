@@ -1,7 +1,7 @@
 ghost use Rattle.files.specs.Theorems.{OneFile, OneContent, NotBoth, OneFault, AlwaysAnswered, WrittenOpens, AlwaysStorable, CellsHoldRows, OneReason, FitOrNot, Worked};
 
 // The format stands: bytes are the file of one content or refused with one fault, and what is written is opened again.
-pub fn files_stand() -> u8
+pub fn files_stand()
     ensures file { OneFile }
     ensures content { OneContent }
     ensures both { NotBoth }
@@ -12,13 +12,9 @@ pub fn files_stand() -> u8
     ensures cells { CellsHoldRows }
     ensures reason { OneReason }
     ensures fit { FitOrNot }
-{
-    0
-}
+{}
 
 // A file worked by hand.
-pub fn worked_file() -> u8
+pub fn worked_file()
     ensures worked { Worked }
-{
-    0
-}
+{}

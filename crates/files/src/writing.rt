@@ -1,102 +1,76 @@
-ghost use Rattle.std.specs.Prelude.{◌≡◌, ◌+◌, ◌*◌, ◌≤◌, length, take};
+ghost use Rattle.std.specs.Prelude.{◌≡◌, ◌+◌, ◌*◌, ◌≤◌, ◌++◌, length, drop};
 ghost use Rattle.source.specs.Rows.{flat};
-ghost use Rattle.numbers.specs.Forms.{encode, encodes};
+ghost use Rattle.numbers.specs.Forms.{encodes};
 ghost use Rattle.numbers.specs.Writing.{Filled};
-ghost use Rattle.files.specs.Held.{held_rows, file_of};
+ghost use Rattle.files.specs.Contents.{file, header_numbers};
+ghost use Rattle.files.specs.Held.{columns_marks, cut};
+ghost use Rattle.files.specs.Listed.{rows_marks, rows_values};
 
-use crate::columns::pack;
-use source::Mark;
+use crate::columns::Columns;
+use crate::rows::Rows;
 
-// How many bytes a row takes.
-fn row_size(row: [u32; 4], columns: usize) -> usize
-    requires { columns ≤ 4 }
-    ensures long { result ≡ length (encodes (take columns row)) }
+// How many bytes these values take.
+fn values_size(values: &[u32]) -> usize
+    requires { length values.now ≤ 4 }
+    ensures long { result ≡ length (encodes values.now) }
     ensures few { result ≤ 20 }
 {
-    let mut sum = 0;
-    for i in 0..columns {
-        sum += numbers::size(row[i]);
-    }
-    sum
+    values.iter().map(|&value| numbers::size(value)).sum()
 }
 
-// How many bytes the first rows take.
-pub(crate) fn rows_size(rows: &[[u32; 4]], upto: usize, columns: usize) -> usize
-    requires columns { columns ≤ 4 }
-    requires upto { upto ≤ length rows.now }
-    ensures long { result ≡ length (encodes (flat (held_rows columns upto rows.now))) }
-    ensures few { result ≤ 20 * upto }
+// How many bytes the rows take.
+pub(crate) fn rows_size(columns: &Columns, rows: &[[u32; 4]]) -> usize
+    requires { length rows.now ≤ 1024 }
+    ensures long { result ≡ length (encodes (flat (cut (length (columns_marks columns.now)) rows.now))) }
+    ensures few { result ≤ 20 * length rows.now }
 {
-    let mut sum = 0;
-    for j in 0..upto {
-        sum += row_size(rows[j], columns);
-    }
-    sum
+    rows.iter()
+        .map(|row| values_size(columns.values(row)))
+        .sum()
+}
+
+// The numbers of the header.
+fn header(rows: &Rows) -> [u32; 3]
+    ensures { result ≡ header_numbers (rows_marks rows.now) (length (rows_values rows.now)) }
+{
+    let columns = rows.columns();
+    [
+        columns.width() as u32,
+        columns.pack(),
+        rows.cells().len() as u32,
+    ]
 }
 
 // How many bytes a file takes.
-pub(crate) fn file_size(marks: &[Mark], rows: &[[u32; 4]]) -> usize
-    requires columns { length marks.now ≤ 4 }
-    requires count { length rows.now ≤ 1024 }
-    ensures { result ≡ length (file_of marks.now rows.now) }
+pub(crate) fn file_size(rows: &Rows) -> usize
+    ensures { result ≡ length (file (rows_marks rows.now) (rows_values rows.now)) }
 {
-    let width = marks.len();
-    let head = numbers::size(width as u32)
-        + numbers::size(pack(marks))
-        + numbers::size(rows.len() as u32);
-    head + rows_size(rows, rows.len(), width)
+    values_size(&header(rows)) + rows_size(rows.columns(), rows.cells())
 }
 
-// Writes a number where there is room for it, and answers the place behind it.
-fn put(memory: &mut [u8], at: usize, value: u32) -> usize
-    requires { at + length (encode value) ≤ length memory.old }
-    ensures place { result ≡ at + length (encode value) }
-    ensures filled { Filled memory.old memory.new at (encode value) }
-{
-    match numbers::write(memory, at, value) {
-        Ok(count) => at + count,
-        Err(_) => unreachable(),
-    }
-}
-
-// Writes a row, and answers the place behind it.
-fn put_row(memory: &mut [u8], at: usize, row: [u32; 4], columns: usize) -> usize
-    requires columns { columns ≤ 4 }
-    requires room { at + length (encodes (take columns row)) ≤ length memory.old }
-    ensures place { result ≡ at + length (encodes (take columns row)) }
-    ensures filled { Filled memory.old memory.new at (encodes (take columns row)) }
+// Writes values one after another where there is room for them, and answers the place behind them.
+fn put_values(memory: &mut [u8], at: usize, values: &[u32]) -> usize
+    requires { at + length (encodes values.now) ≤ length memory.old }
+    ensures place { result ≡ at + length (encodes values.now) }
+    ensures filled { Filled memory.old memory.new at (encodes values.now) }
 {
     let mut to = at;
-    for i in 0..columns {
-        to = put(memory, to, row[i]);
+    for value in values {
+        match numbers::write(memory, to, *value) {
+            Ok(count) => to += count,
+            Err(_) => unreachable(),
+        }
     }
     to
 }
 
-// Writes rows, and answers the place behind them.
-fn put_rows(memory: &mut [u8], at: usize, rows: &[[u32; 4]], columns: usize) -> usize
-    requires columns { columns ≤ 4 }
-    requires room { at + length (encodes (flat (held_rows columns (length rows.now) rows.now))) ≤ length memory.old }
-    ensures place { result ≡ at + length (encodes (flat (held_rows columns (length rows.now) rows.now))) }
-    ensures filled { Filled memory.old memory.new at (encodes (flat (held_rows columns (length rows.now) rows.now))) }
+// Writes a file from the start of the memory, which has room for it.
+pub(crate) fn fill(memory: &mut [u8], rows: &Rows)
+    requires { length (file (rows_marks rows.now) (rows_values rows.now)) ≤ length memory.old }
+    ensures { memory.new ≡ file (rows_marks rows.now) (rows_values rows.now) ++ drop (length (file (rows_marks rows.now) (rows_values rows.now))) memory.old }
 {
-    let mut to = at;
-    for j in 0..rows.len() {
-        to = put_row(memory, to, rows[j], columns);
+    let mut to = put_values(memory, 0, &header(rows));
+    for row in rows.cells() {
+        to = put_values(memory, to, rows.columns().values(row));
     }
-    to
-}
-
-// Writes a file from the start of the memory, which has room for it, and answers its length.
-pub(crate) fn fill(memory: &mut [u8], marks: &[Mark], rows: &[[u32; 4]]) -> usize
-    requires columns { length marks.now ≤ 4 }
-    requires count { length rows.now ≤ 1024 }
-    requires room { length (file_of marks.now rows.now) ≤ length memory.old }
-    ensures place { result ≡ length (file_of marks.now rows.now) }
-    ensures filled { Filled memory.old memory.new 0 (file_of marks.now rows.now) }
-{
-    let a = put(memory, 0, marks.len() as u32);
-    let b = put(memory, a, pack(marks));
-    let d = put(memory, b, rows.len() as u32);
-    put_rows(memory, d, rows, marks.len())
 }

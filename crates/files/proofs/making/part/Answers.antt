@@ -1,27 +1,63 @@
-use Rattle.std.proofs.Common.{refl, arith}
-use Rattle.files.proofs.Dividing.{cutting_none, cutting_more, row_inside, values_true}
-use Rattle.files.proofs.Storing.{unfit_values, unfit_order, divided, still_ascends}
+use Rattle.std.proofs.Common.{◌≡◌, ℕ, ◌++◌, [], ◌∷◌, List, length, take, map, sym, ap, ◌∙◌, subst, arith, rules, false}
+use Rattle.std.proofs.lemmas.List.{take_at}
+use Rattle.source.specs.declared.mark.Mark.{Mark}
+use Rattle.source.specs.Rows.{ascending}
+use Rattle.files.specs.Held.{columns_marks}
+use Rattle.files.specs.Listed.{rows_marks, rows_values}
+use Rattle.files.specs.Making.{Unfit, Divided}
+use Rattle.files.proofs.Pushing.{values_true, whole_row, whole_push}
+use Rattle.files.proofs.Heads.{columns_header}
+use Rattle.files.proofs.Dividing.{not_whole, too_many_rows, Cutting, cutting_none, cutting_more, cutting_all, values_cut}
+use Rattle.files.proofs.Storing.{unfit_values, unfit_order, few_rows}
 use Rattle.files.proofs.making.part.Goals as goal
+use Rattle.files.proofs.making.part.Goals.{then-values-width-ne0-via-then-values-width-ne0, then-values-width-ne0-via-else-values-width-ne0+then-values-width-gt-ROWS_MAX}
 
-pub returns-in_default : goal.returns-in_default
-returns-in_default c = unfit_values c.requires c.in_default.ensures c.bare.ensures.value
+pub returns-then-values-width-ne0 : goal.returns-then-values-width-ne0
+returns-then-values-width-ne0 c =
+    let width = c.width-width.ensures in
+    let some = c.args.columns.some in
+    unfit_values (elim c.then-values-width-ne0.branch [
+      | then-values-width-ne0-via-then-values-width-ne0 w ↦ not_whole (length c.args.values.now) (length (columns_marks c.args.columns)) some (rw width at w.if-values-width-ne0.true)
+      | then-values-width-ne0-via-else-values-width-ne0+then-values-width-gt-ROWS_MAX w ↦ too_many_rows (length c.args.values.now) (length (columns_marks c.args.columns)) some (rw width at w.if-values-width-gt-ROWS_MAX.true)
+    ]) c.bare.ensures.value
 
-pub loop-i-init : goal.loop-i-init
-loop-i-init c = cutting_none _ _ _ _ refl c.in-Some.ensures.0
+pub loop-chunk-init : goal.loop-chunk-init
+loop-chunk-init c =
+    let rows = c.new-rows.result in
+    let width : c.width-width.result ≡ length (rows_marks rows) = c.width-width.ensures ∙ ap length (sym c.new-rows.ensures.marks) in
+    let none : rows_values rows ≡ [] = ap (map (take (length (rows_marks rows)))) c.new-rows.ensures.none in
+    let cutting = cutting_none (rows_marks rows) c.args.values.now (rw width at c.if-values-width-ne0.false) (rw width at c.if-values-width-gt-ROWS_MAX.false) in
+    let left = c.chunks_exact-chunk-items.ensures.rest in
+    (c.new-rows.ensures.marks, search rules, rw none (subst (λ (xs : List ℕ). Cutting (rows_marks rows) c.args.values.now [] xs) (search rules) cutting))
 
-pub cut_row-row-requires : goal.cut_row-row-requires
-cut_row-row-requires c = record { columns = c.requires.four_columns; inside = row_inside c.loop-i-test.true c.in-Some.ensures.1 c.loop-i.invariant }
+pub returns-then-not-push : goal.returns-then-not-push
+returns-then-not-push c =
+    let rows = c.loop-chunk.rows in
+    let width : c.width-width.result ≡ length (rows_marks rows) = c.width-width.ensures ∙ ap length (sym c.loop-chunk.invariant.0) in
+    let step = c.in-Some.ensures.steps in
+    let wide : length c.in-Some.chunk.now ≡ length (rows_marks rows) = step.1.1 ∙ c.loop-chunk.invariant.1 ∙ width in
+    let more = cutting_more rows.columns.some c.loop-chunk.invariant.2 c.in-Some.chunk.now c.next.new.self.rest.now step.1.0 wide in
+    let falls : ascending (rows_values rows ++ c.in-Some.chunk.now ∷ []) ≡ false = rw (c.copy_from_slice.ensures.after, take_at) at (sym c.push.ensures.follows ∙ c.if-not-push.true) in
+    let small = values_true c.args.values.now (λ i. omega (arith, c.type_inv.values i)) in
+    let first = values_cut (rows_values rows) c.loop-chunk.invariant.2.values_are c.in-Some.chunk.now c.next.new.self.rest.now step.1.0 small in
+    let whole = whole_push (rows_marks rows) (rows_values rows) c.in-Some.chunk.now rows.whole (whole_row (rows_marks rows) c.in-Some.chunk.now wide first) in
+    let unfit = unfit_order rows.columns.some (λ n h. columns_header rows.columns h) small whole more falls c.bare-then-not-push.ensures.value in
+    subst (λ (ms : List Mark). Unfit ms c.args.values.now c.bare-then-not-push.result) c.loop-chunk.invariant.0 unfit
 
-pub returns-then-not-follows : goal.returns-then-not-follows
-returns-then-not-follows c = unfit_order c.requires c.in-Some.ensures.0 c.in-Some.ensures.1 (values_true c.args.values.now (λ i. omega (arith, c.type_inv.values i))) _ c.follows.result c.loop-i-test.true c.loop-i.invariant c.cut_row-row.ensures.value c.follows.ensures c.if-not-follows.true c.bare-then-not-follows.ensures.value
-
-pub loop-i-preserved : goal.loop-i-preserved
-loop-i-preserved c = cutting_more c.loop-i-test.true c.in-Some.ensures.1 c.loop-i.invariant _ c.follows.result c.cut_row-row.ensures.value c.follows.ensures c.if-not-follows.false
+pub loop-chunk-preserved : goal.loop-chunk-preserved
+loop-chunk-preserved c =
+    let rows = c.loop-chunk.rows in
+    let width : c.width-width.result ≡ length (rows_marks rows) = c.width-width.ensures ∙ ap length (sym c.loop-chunk.invariant.0) in
+    let step = c.in-Some.ensures.steps in
+    let wide : length c.in-Some.chunk.now ≡ length (rows_marks rows) = step.1.1 ∙ c.loop-chunk.invariant.1 ∙ width in
+    let more = cutting_more rows.columns.some c.loop-chunk.invariant.2 c.in-Some.chunk.now c.next.new.self.rest.now step.1.0 wide in
+    let values : rows_values c.push.new.self ≡ rows_values rows ++ c.in-Some.chunk.now ∷ [] = rw (c.if-not-push.false, c.copy_from_slice.ensures.after, take_at) at c.push.ensures.values in
+    (c.push.ensures.marks ∙ c.loop-chunk.invariant.0, step.0 ∙ c.loop-chunk.invariant.1, subst (λ (ms : List Mark). Cutting ms c.args.values.now (rows_values c.push.new.self) c.next.new.self.rest.now) (sym c.push.ensures.marks) (rw values more))
 
 pub returns : goal.returns
-returns c = (
-  c.loop-i.invariant.long,
-  c.in-Some.ensures.1,
-  divided c.requires c.in-Some.ensures.0 c.in-Some.ensures.1 (values_true c.args.values.now (λ i. omega (arith, c.type_inv.values i))) c.loop-i-test.false (omega arith) c.loop-i.invariant,
-  still_ascends c.loop-i-test.false (omega arith) c.loop-i.invariant,
-)
+returns c =
+    let rows = c.loop-chunk.rows in
+    let width : c.width-width.result ≡ length (rows_marks rows) = c.width-width.ensures ∙ ap length (sym c.loop-chunk.invariant.0) in
+    let step = c.in-None.ensures.steps in
+    let divided = cutting_all rows.columns.some c.loop-chunk.invariant.2 (columns_header rows.columns (few_rows rows)) (omega (arith, step.1.0)) rows.whole in
+    (c.loop-chunk.invariant.0, subst (λ (ms : List Mark). Divided ms c.args.values.now (rows_values rows)) c.loop-chunk.invariant.0 divided)

@@ -1,16 +1,33 @@
-use Rattle.std.proofs.Common.{refl, ◌∙◌, length-set}
-use Rattle.files.proofs.Heads.{sound_long}
-use Rattle.files.proofs.Fronts.{turn, stopped, fell, front_none}
+use Rattle.std.proofs.Common.{◌≡◌, ℕ, ◌+◌, List, length, sym, ap, ◌∙◌, subst, arith}
+use Rattle.std.proofs.lemmas.List.{length_push}
+use Rattle.std.proofs.lemmas.Result.{err_from_is_err_and}
+use Rattle.bounded.proofs.Holding.{length_most}
+use Rattle.source.specs.declared.mark.Mark.{Mark}
+use Rattle.files.specs.Listed.{rows_marks, rows_values}
+use Rattle.files.specs.Refusing.{Front}
+use Rattle.files.proofs.Fronts.{turn, fell, stopped}
 use Rattle.files.proofs.opening.read_rows.Goals as goal
 
-pub loop-i-init : goal.loop-i-init
-loop-i-init c = (refl, front_none _ _ c.requires.headed.front)
+pub returns-in_err-row : goal.returns-in_err-row
+returns-in_err-row c =
+    let rows = c.loop.rows in
+    let width : c.width-width.result ≡ length (rows_marks rows) = c.width-width.ensures ∙ ap length (sym c.loop.invariant.0) in
+    let p = err_from_is_err_and c.from_residual.result c.from_residual.ensures.1 in
+    rw (p.1, p.2) (stopped (rows_values rows) (length_most rows.columns.marks) (omega arith) c.loop.invariant.2 (rw width at c.in_err-row.ensures))
 
-pub returns-then-not-follows : goal.returns-then-not-follows
-returns-then-not-follows c = fell _ _ c.loop-i.invariant.0 c.requires.headed.few_rows (sound_long c.requires.headed.sound) c.loop-i-test.true c.loop-i.invariant.1 c.follows.result c.requires.headed.sound.four_columns c.in-Ok.ensures c.follows.ensures c.if-not-follows.true c.placed.ensures.value
+pub returns-then-not-push : goal.returns-then-not-push
+returns-then-not-push c =
+    let rows = c.loop.rows in
+    let width : c.width-width.result ≡ length (rows_marks rows) = c.width-width.ensures ∙ ap length (sym c.loop.invariant.0) in
+    fell (rows_values rows) (length_most rows.columns.marks) (omega arith) c.loop.invariant.2 c.push.result (rw width at c.in_ok-row.ensures) c.push.ensures.follows c.if-not-push.true c.placed.ensures.value
 
-pub returns-in-Err : goal.returns-in-Err
-returns-in-Err c = stopped _ _ c.loop-i.invariant.0 c.requires.headed.few_rows (sound_long c.requires.headed.sound) c.loop-i-test.true c.loop-i.invariant.1 c.in-Err.ensures
-
-pub loop-i-preserved : goal.loop-i-preserved
-loop-i-preserved c = (length-set _ _ _ ∙ c.loop-i.invariant.0, turn _ _ c.loop-i.invariant.0 c.requires.headed.few_rows (sound_long c.requires.headed.sound) c.loop-i-test.true c.loop-i.invariant.1 c.follows.result c.requires.headed.sound.four_columns c.in-Ok.ensures c.follows.ensures c.if-not-follows.false)
+pub loop-preserved : goal.loop-preserved
+loop-preserved c =
+    let rows = c.loop.rows in
+    let width : c.width-width.result ≡ length (rows_marks rows) = c.width-width.ensures ∙ ap length (sym c.loop.invariant.0) in
+    let more = rw c.if-not-push.false at c.push.ensures.values in
+    let front = turn (rows_values rows) (length_most rows.columns.marks) (omega arith) c.loop.invariant.2 (rows_values c.push.new.self) c.push.result (rw width at c.in_ok-row.ensures) c.push.ensures.follows c.push.ensures.values c.if-not-push.false in (
+      c.push.ensures.marks ∙ c.loop.invariant.0,
+      ap length more ∙ length_push (rows_values rows) _ ∙ ap (λ (n : ℕ). n + 1) c.loop.invariant.1,
+      subst (λ (ms : List Mark). Front c.args.bytes.now ms c.args.head.count (rows_values c.push.new.self) c.in_ok-row.to) (sym c.push.ensures.marks) front,
+    )

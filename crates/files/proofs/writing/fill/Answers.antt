@@ -1,24 +1,27 @@
-use Rattle.std.proofs.Common.{ℕ, length, ap, arith}
-use Rattle.numbers.specs.Forms.{encode}
-use Rattle.files.specs.Held.{held_rows}
-use Rattle.files.proofs.Sizes.{long_parts}
-use Rattle.files.proofs.Filling.{filled_file}
+use Rattle.std.proofs.Common.{◌≡◌, ◌<◌, ℕ, List, [], length, get_or, take, ap, arith}
+use Rattle.numbers.specs.Forms.{encodes}
+use Rattle.files.specs.Listed.{rows_marks, rows_cells, rows_values}
+use Rattle.files.proofs.Sizes.{file_long, row_fits}
+use Rattle.files.proofs.Filling.{Put, put_row}
 use Rattle.files.proofs.writing.fill.Goals as goal
 
-pub put-a-requires : goal.put-a-requires
-put-a-requires c = omega (arith, c.requires.room, long_parts c.args.marks.now (length c.args.rows.now) (held_rows (length c.args.marks.now) (length c.args.rows.now) c.args.rows.now))
+pub put_values-to-requires : goal.put_values-to-requires
+put_values-to-requires c =
+    let r = c.args.rows.now in
+    omega (arith, c.requires, ap (λ (x : List ℕ). length (encodes x)) c.header.ensures, file_long (rows_marks r) (length (rows_values r)) (rows_values r))
 
-pub put-b-requires : goal.put-b-requires
-put-b-requires c = omega (arith, c.requires.room, c.put-a.ensures.place, ap (λ (x : ℕ). length (encode x)) c.pack.ensures, long_parts c.args.marks.now (length c.args.rows.now) (held_rows (length c.args.marks.now) (length c.args.rows.now) c.args.rows.now))
+pub put_values-to-requires-in-loop-row : goal.put_values-to-requires-in-loop-row
+put_values-to-requires-in-loop-row c =
+    let r = c.args.rows.now in
+    let inside : c.loop-row.row-index < length (rows_cells r) = rw c.cells-row-items.ensures at c.loop-row-test.true in
+    let values : c.values.result.now ≡ take (length (rows_marks r)) (get_or (rows_cells r) c.loop-row.row-index []) = rw (c.columns.ensures, c.cells-row-items.ensures) at c.values.ensures in
+    omega (arith, c.requires, c.loop-row.invariant.0, ap (λ (x : List ℕ). length (encodes x)) values, row_fits (rows_marks r) (length (rows_values r)) (length (rows_marks r)) c.loop-row.row-index (rows_cells r) inside)
 
-pub put-d-requires : goal.put-d-requires
-put-d-requires c = omega (arith, c.requires.room, c.put-a.ensures.place, c.put-b.ensures.place, ap (λ (x : ℕ). length (encode x)) c.pack.ensures, long_parts c.args.marks.now (length c.args.rows.now) (held_rows (length c.args.marks.now) (length c.args.rows.now) c.args.rows.now))
-
-pub put_rows-requires : goal.put_rows-requires
-put_rows-requires c = record { columns = c.requires.columns; room = omega (arith, c.requires.room, c.put-a.ensures.place, c.put-b.ensures.place, c.put-d.ensures.place, ap (λ (x : ℕ). length (encode x)) c.pack.ensures, long_parts c.args.marks.now (length c.args.rows.now) (held_rows (length c.args.marks.now) (length c.args.rows.now) c.args.rows.now)) }
-
-pub returns : goal.returns
-returns c = record {
-  place = omega (arith, c.put_rows.ensures.place, c.put-a.ensures.place, c.put-b.ensures.place, c.put-d.ensures.place, ap (λ (x : ℕ). length (encode x)) c.pack.ensures, long_parts c.args.marks.now (length c.args.rows.now) (held_rows (length c.args.marks.now) (length c.args.rows.now) c.args.rows.now));
-  filled = filled_file c.args.memory.now c.put-a.new.memory c.put-b.new.memory c.put-d.new.memory _ c.args.marks.now c.args.rows.now _ _ _ _ c.pack.ensures c.put-a.ensures.place c.put-b.ensures.place c.put-d.ensures.place c.requires.room (omega arith) (omega arith) c.put-a.ensures.filled c.put-b.ensures.filled c.put-d.ensures.filled c.put_rows.ensures.filled;
-}
+pub loop-row-preserved : goal.loop-row-preserved
+loop-row-preserved c =
+    let r = c.args.rows.now in
+    let inside : c.loop-row.row-index < length (rows_cells r) = rw c.cells-row-items.ensures at c.loop-row-test.true in
+    let values : c.values.result.now ≡ take (length (rows_marks r)) (get_or (rows_cells r) c.loop-row.row-index []) = rw (c.columns.ensures, c.cells-row-items.ensures) at c.values.ensures in
+    let fits = row_fits (rows_marks r) (length (rows_values r)) (length (rows_marks r)) c.loop-row.row-index (rows_cells r) inside in
+    let put : Put c.loop-row.memory c.put_values-to-in-loop-row.new.memory c.loop-row.to c.put_values-to-in-loop-row.result c.values.result.now = (c.put_values-to-in-loop-row.ensures.place, c.put_values-to-in-loop-row.ensures.filled) in
+    put_row _ _ _ c.loop-row.to _ _ _ c.loop-row.row-index (rows_marks r) (rows_cells r) inside (omega (arith, c.requires)) c.loop-row.invariant (rw values at put)

@@ -1,9 +1,13 @@
-use Rattle.std.proofs.Common.{arith}
-use Rattle.files.proofs.Sizes.{none_flat, rows_longer}
+use Rattle.std.proofs.Common.{◌≡◌, ℕ, List, length, take, ◌∙◌, rules, arith}
+use Rattle.std.specs.List.{sum_by}
+use Rattle.bounded.proofs.Holding.{length_most}
+use Rattle.numbers.specs.Forms.{encodes}
+use Rattle.files.specs.Held.{columns_marks}
+use Rattle.files.proofs.Sizes.{rows_long, rows_few}
 use Rattle.files.proofs.writing.rows_size.Goals as goal
 
-pub loop-j-init : goal.loop-j-init
-loop-j-init c = (none_flat c.args.columns c.args.rows.now, omega arith)
-
-pub loop-j-preserved : goal.loop-j-preserved
-loop-j-preserved c = (omega (arith, rows_longer c.args.columns c.loop-j.j c.args.rows.now (omega arith), c.loop-j.invariant.0, c.row_size-sum.ensures.long), omega (arith, c.loop-j.invariant.1, c.row_size-sum.ensures.few))
+pub returns : goal.returns
+returns c =
+    let width : ℕ = length (columns_marks c.args.columns.now) in
+    let long : c.sum.result ≡ sum_by (λ (row : List ℕ). length (encodes (take width row))) c.args.rows.now = search rules in
+    record { long = long ∙ rows_long width c.args.rows.now; few = omega (arith, long, rows_long width c.args.rows.now, rows_few width c.args.rows.now (length_most c.args.columns.now.marks)) }
