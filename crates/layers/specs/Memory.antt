@@ -61,12 +61,6 @@ memoized es m = record {
 abbrev pub Writes : List (List ℕ) → List ℕ → List ℕ → Type 0
 Writes rows memory memory' = memory' ≡ flat rows ++ drop (length (flat rows)) memory
 
--- a table that answers from its entries: how many rows it wrote to the memory, if it remembers any for
--- the inputs; else nothing
-abbrev pub Recalls : List Remembered → List Mark → List ℕ → List ℕ → List ℕ → Option ℕ → Type 0
-Recalls es marks inputs memory memory' (Some count) = (rows : List (List ℕ)) × (recalled es marks inputs ≡ Some rows) × (count ≡ length rows) × Writes rows memory memory'
-Recalls es marks inputs memory memory' None = (recalled es marks inputs ≡ None) × (memory' ≡ memory)
-
 -- the table with another entry in its next empty place; the others are as they were
 abbrev pub with_next : Table → Entry → Table
 with_next t e = record { entries = with_item t.entries t.used e; used = t.used }

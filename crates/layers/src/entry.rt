@@ -53,7 +53,7 @@ impl Entry {
 
     // Writes the rows from the start of the memory, and returns how many they are.
     pub(crate) fn write(&self, memory: &mut [u32]) -> usize
-        requires { ENTRY_VALUES ≤ length memory.old }
+        requires { length (held self.now.values) ≤ length memory.old }
         ensures count { result ≡ length (kept self.now).rows }
         ensures written { Writes (kept self.now).rows memory.old memory.new }
     {

@@ -47,8 +47,8 @@ impl<S: Source> Source for Memo<S> {
     {
         admit(self.below.marks(), inputs, memory.len())?;
         let asked = Asked::new(self.below.marks(), inputs);
-        if let Some(count) = self.table.recall(&asked, memory) {
-            return Ok(count);
+        if let Some(entry) = self.table.recall(&asked) {
+            return Ok(entry.write(memory));
         }
         let count = self.below.call(inputs, memory).map_err(Fault::raised)?;
         self.table.remember(asked, count, memory);

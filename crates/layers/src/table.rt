@@ -1,10 +1,10 @@
 ghost use Rattle.std.specs.Prelude.{◌≡◌, ◌≤◌, true, [], length, is_some, IfOk, vec_len, nat_lt};
 ghost use Rattle.std.specs.Borrow.{sem, follows_if};
-ghost use Rattle.std.specs.Option.{ghost_name_of as name_of};
+ghost use Rattle.std.specs.Option.{ghost_name_of as name_of, option_map};
 ghost use Rattle.source.specs.Rows.{rows_in};
 ghost use Rattle.bounded.specs.Held.{held};
 ghost use Rattle.layers.specs.Entries.{sound};
-ghost use Rattle.layers.specs.Memory.{kept_all, from_memory, Recalls, Remembers, with_next};
+ghost use Rattle.layers.specs.Memory.{kept, kept_all, recalled, from_memory, Remembers, with_next};
 ghost use Rattle.layers.specs.contracts.table.Table.{the_row};
 ghost use Rattle.layers.specs.contracts.entry.Entry.{the_row as entry_row};
 
@@ -42,14 +42,14 @@ impl Table {
         self.entries.get_mut(next)
     }
 
-    // Answers from the entry of what is asked, if there is one.
-    pub(crate) fn recall(&self, asked: &Asked, memory: &mut [u32]) -> Option<usize>
-        requires { ENTRY_VALUES ≤ length memory.old }
-        ensures { Recalls (kept_all self.now) (held asked.now.marks) (held asked.now.inputs) memory.old memory.new result }
+    // The first filled entry of what is asked, if there is one.
+    pub(crate) fn recall(&self, asked: &Asked) -> Option<&Entry>
+        ensures { recalled (kept_all self.now) (held asked.now.marks) (held asked.now.inputs) ≡ option_map (λ e. (kept e.now).rows) result }
     {
-        let mut filled = self.entries.iter().take(self.used);
-        let entry = filled.find(|entry| entry.asked.is_same(asked))?;
-        Some(entry.write(memory))
+        self.entries
+            .iter()
+            .take(self.used)
+            .find(|entry| entry.asked.is_same(asked))
     }
 
     // Fills the next empty entry with the rows that stand from the start of the memory, if they are
