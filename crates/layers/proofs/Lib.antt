@@ -2,3 +2,4 @@ pub mod Racking
 pub mod Answering
 pub mod Chunking
 pub mod Finding
+pub mod Storing

@@ -52,6 +52,7 @@ impl Entry {
     }
 
     // Writes the rows from the start of the memory, and returns how many they are.
+    #[tactic(auto, using(source::proofs::Chunks::length_rows_in, crate::proofs::Storing::stored_values))]
     pub(crate) fn write(&self, memory: &mut [u32]) -> usize
         requires { length (held self.now.values) ≤ length memory.old }
         ensures count { result ≡ length (kept self.now).rows }

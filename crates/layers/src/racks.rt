@@ -57,6 +57,7 @@ impl<S: Source, R: Rack> Rack for Beside<S, R> {
         }
     }
 
+    #[tactic(auto, using(crate::proofs::Racking::called_beside))]
     fn call(&mut self, source: usize, inputs: &[u32], memory: &mut [u32]) -> Result<usize, Fault> {
         if source == 0 {
             self.0.call(inputs, memory).map_err(Fault::of_first_source)

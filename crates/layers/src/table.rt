@@ -54,6 +54,7 @@ impl Table {
 
     // Fills the next empty entry with the rows that stand from the start of the memory, if they are
     // few enough and an entry is empty.
+    #[tactic(auto, using(source::proofs::Chunks::length_rows_in))]
     pub(crate) fn remember(&mut self, asked: Asked, count: usize, memory: &[u32])
         requires room { ENTRY_VALUES ≤ length memory.now }
         requires sound { count ≤ ENTRY_ROWS → sound (held asked.marks) (held asked.inputs) (rows_in (length (held asked.marks)) count memory.now) ≡ true }

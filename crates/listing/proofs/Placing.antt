@@ -7,7 +7,7 @@ use Rattle.std.specs.List.{insert}
 use Rattle.listing.specs.Answers.{answers}
 
 -- what a move by four and a write at the gap leave
-pub moved : (m now ys answer : List ℕ) (a e : ℕ) → a ≤ e → e + 4 ≤ length m → now ≡ paste m (a + 4) (drop a m) (e - a) → ys ≡ answer → put_mid a (a + 4 - a) now ys ≡ take a m ++ (answer ++ (take (e - a) (drop a m) ++ drop (e + 4) m))
+moved : (m now ys answer : List ℕ) (a e : ℕ) → a ≤ e → e + 4 ≤ length m → now ≡ paste m (a + 4) (drop a m) (e - a) → ys ≡ answer → put_mid a (a + 4 - a) now ys ≡ take a m ++ (answer ++ (take (e - a) (drop a m) ++ drop (e + 4) m))
 moved m now ys answer a e le room is same =
     let mid : List ℕ = take (e - a) (drop a m) in
     let tail : List ℕ = drop (a + 4 + (e - a)) m in
@@ -36,10 +36,10 @@ same_answers (suc count) (a ∷ b ∷ d ∷ g ∷ m) rest h =
     ∙ ap (λ (l : List (List ℕ)). (a ∷ b ∷ d ∷ g ∷ []) ∷ l) (same_answers count m rest (omega arith))
 
 -- the memory with an answer put at a place before the last ones
-abbrev pub with_answer : List ℕ → ℕ → ℕ → List ℕ → List ℕ
+abbrev with_answer : List ℕ → ℕ → ℕ → List ℕ → List ℕ
 with_answer m count place answer = take (4 * place) m ++ (answer ++ (take (4 * count - 4 * place) (drop (4 * place) m) ++ drop (4 * count + 4) m))
 
-pub answers_with : (place count : ℕ) (m answer : List ℕ) → length answer ≡ 4 → place ≤ count → 4 * count + 4 ≤ length m → answers (suc count) (with_answer m count place answer) ≡ insert (answers count m) place answer
+answers_with : (place count : ℕ) (m answer : List ℕ) → length answer ≡ 4 → place ≤ count → 4 * count + 4 ≤ length m → answers (suc count) (with_answer m count place answer) ≡ insert (answers count m) place answer
 answers_with zero count m answer four le room =
     let first : take 4 (answer ++ (take (4 * count) m ++ drop (4 * count + 4) m)) ≡ answer = take_at answer _ 4 four in
     let rest : drop 4 (answer ++ (take (4 * count) m ++ drop (4 * count + 4) m)) ≡ take (4 * count) m ++ drop (4 * count + 4) m = drop_at answer _ 4 four in
@@ -63,11 +63,17 @@ answers_with (suc place) (suc count) (a ∷ b ∷ d ∷ g ∷ m) answer four le 
     let three = ap (λ (k : ℕ). answers (suc (suc count)) (take k whole ++ (answer ++ (take (4 * count - 4 * place) (drop k whole) ++ drop (4 * count + 4) m)))) p in
     one ∙ (two ∙ (three ∙ ap (λ (l : List (List ℕ)). (a ∷ b ∷ d ∷ g ∷ []) ∷ l) (answers_with place count m answer four (omega arith) (omega arith))))
 
-module _ (m answer left : List ℕ) (count place : ℕ) (four : length answer ≡ 4) (le : place ≤ count) (room : 4 * count + 4 ≤ length m) (is : left ≡ with_answer m count place answer) where
+module _ (m now ys answer : List ℕ) (count place : ℕ) (le : place ≤ count) (room : 4 * count + 4 ≤ length m) (four : length answer ≡ 4) (is : now ≡ paste m (4 * place + 4) (drop (4 * place) m) (4 * count - 4 * place)) (same : ys ≡ answer) where
+  abbrev left : List ℕ
+  left = put_mid (4 * place) (4 * place + 4 - 4 * place) now ys
+
+  left_is : left ≡ with_answer m count place answer
+  left_is = moved m now ys answer (4 * place) (4 * count) (omega arith) room is same
+
   pub put_answers : answers (count + 1) left ≡ insert (answers count m) place answer
   put_answers =
       let one : count + 1 ≡ suc count = omega arith in
-      ap (λ (n : ℕ). answers n left) one ∙ (ap (answers (suc count)) is ∙ answers_with place count m answer four le room)
+      ap (λ (n : ℕ). answers n left) one ∙ (ap (answers (suc count)) left_is ∙ answers_with place count m answer four le room)
 
   -- the numbers behind the answers stay
   pub put_behind : drop (4 * (count + 1)) left ≡ drop (4 * (count + 1)) m
@@ -82,5 +88,5 @@ module _ (m answer left : List ℕ) (count place : ℕ) (four : length answer �
       ap (λ (l : List ℕ). front ++ l) (sym (append_assoc answer mid tail)) ∙ sym (append_assoc front (answer ++ mid) tail) in
       let n : 4 * (count + 1) ≡ 4 * count + 4 = omega arith in
       ap (λ (k : ℕ). drop k left) n
-      ∙ (ap (drop (4 * count + 4)) (is ∙ parts)
+      ∙ (ap (drop (4 * count + 4)) (left_is ∙ parts)
       ∙ (drop_at (front ++ (answer ++ mid)) tail (4 * count + 4) long ∙ ap (λ (k : ℕ). drop k m) (sym n)))

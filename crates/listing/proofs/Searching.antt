@@ -1,5 +1,5 @@
 -- A binary search among ascending rows.
-use Rattle.std.proofs.Common.{◌≡◌, ℕ, zero, suc, ◌+◌, ◌<◌, ◌≤◌, true, List, [], ◌∷◌, length, get_or, take, drop, Ok, Err, Result, sym, refl, ap, ◌∙◌, add-one, arith}
+use Rattle.std.proofs.Common.{◌≡◌, ℕ, zero, suc, ◌+◌, ◌*◌, ◌/◌, ◌<◌, ◌≤◌, true, List, [], ◌∷◌, length, get_or, take, drop, Ok, Err, Result, sym, refl, ap, ◌∙◌, add-one, arith}
 use Rattle.std.specs.Simd.{first_chunks}
 use Rattle.std.specs.Ordering.{is_lt, is_eq, is_gt, nat_cmp}
 use Rattle.std.specs.Cmp.Lexicographic.{slice_cmp}
@@ -9,12 +9,12 @@ use Rattle.std.proofs.lemmas.Cmp.{nat_list_cmp_total}
 use Rattle.std.proofs.lemmas.List.Sorted.{searchable_from_sorted}
 use Rattle.source.specs.Rows.{before, ascending, rows_in}
 use Rattle.source.proofs.Rows.{same_eq, before_irrefl, before_trans, ascending_tail}
-use Rattle.listing.specs.Answers.{Spotted}
+use Rattle.listing.specs.Answers.{answers, Spotted}
 use Rattle.listing.proofs.Ascents.{in_at, leads_at}
 use Rattle.listing.proofs.Comparing.{is_before, is_behind, is_same}
 
 -- the first cells of a memory are its first rows
-pub first_cells : (columns count many : ℕ) (memory : List ℕ) → count ≤ many → take count (first_chunks columns many memory) ≡ rows_in columns count memory
+first_cells : (columns count many : ℕ) (memory : List ℕ) → count ≤ many → take count (first_chunks columns many memory) ≡ rows_in columns count memory
 first_cells columns zero many memory le = refl
 first_cells columns (suc count) zero memory le = absurd (omega arith)
 first_cells columns (suc count) (suc many) memory le = ap (λ (rows : List (List ℕ)). take columns memory ∷ rows) (first_cells columns count many (drop columns memory) (omega arith))
@@ -32,7 +32,7 @@ sorted rows asc k d low h =
     let next = get_or rows (k + 1) d in
     is_before next one ∙ false_from_ne_true (before next one) (λ back. before_irrefl one (before_trans one next one ahead back))
 
-pub spotted : (rows : List (List ℕ)) (row : List ℕ) (r : Result ℕ ℕ) → ascending rows ≡ true → IsSearchInRange r (length rows) → IsBinarySearchResult (λ y. slice_cmp nat_cmp y row) rows r → Spotted rows row r
+spotted : (rows : List (List ℕ)) (row : List ℕ) (r : Result ℕ ℕ) → ascending rows ≡ true → IsSearchInRange r (length rows) → IsBinarySearchResult (λ y. slice_cmp nat_cmp y row) rows r → Spotted rows row r
 spotted rows row (Ok k) asc bound found = in_at rows k row bound (same_eq (get_or rows k []) row (sym (is_same (get_or rows k []) row) ∙ ap is_eq (found [])))
 spotted rows row (Err k) asc bound found =
     let parted = found (searchable_from_sorted nat_list_cmp_total (λ (x : List ℕ). x) rows row (sorted rows asc)) in
@@ -41,3 +41,10 @@ spotted rows row (Err k) asc bound found =
       above = λ j h. sym (is_before (get_or rows j []) row) ∙ ap is_lt (parted.0 j [] (omega arith) h);
       below = leads_at rows k row (λ h. sym (is_behind (get_or rows k []) row) ∙ ap is_gt (parted.1 k [] (omega arith) h));
     }
+
+-- the same among the first cells of a memory
+pub spotted_among : (count : ℕ) (memory answer : List ℕ) (cells : List (List ℕ)) (r : Result ℕ ℕ) → 4 * count ≤ length memory → cells ≡ first_chunks 4 (length memory / 4) memory → ascending (answers count memory) ≡ true → IsSearchInRange r (length (take count cells)) → IsBinarySearchResult (λ y. slice_cmp nat_cmp y answer) (take count cells) r → Spotted (answers count memory) answer r
+spotted_among count memory answer cells r room front asc bound found =
+    let fits : count ≤ length memory / 4 = omega arith in
+    let rows = ap (take count) front ∙ first_cells 4 count (length memory / 4) memory fits in
+    spotted (answers count memory) answer r asc (rw (← rows) bound) (rw (← rows) found)

@@ -38,6 +38,7 @@ pub fn clear_places(memory: &mut [u32])
 }
 
 // The place of an answer among the listed ones, or the place where it belongs.
+#[tactic(auto, using(crate::proofs::Searching::spotted_among))]
 fn find_spot(memory: &[u32], count: usize, answer: &[u32; 4]) -> Result<usize, usize>
     requires room { 4 * count ≤ length memory.now }
     requires ascends { ascending (answers count memory.now) ≡ true }
@@ -48,6 +49,7 @@ fn find_spot(memory: &[u32], count: usize, answer: &[u32; 4]) -> Result<usize, u
 }
 
 // Moves the answers from a place on by one, and writes an answer there.
+#[tactic(auto, using(crate::proofs::Placing::put_answers, crate::proofs::Placing::put_behind))]
 fn put(memory: &mut [u32], count: usize, place: usize, answer: &[u32; 4])
     requires inside { place ≤ count }
     requires room { 4 * count + 4 ≤ length memory.old }
@@ -60,6 +62,7 @@ fn put(memory: &mut [u32], count: usize, place: usize, answer: &[u32; 4])
 
 // Puts an answer among the listed ones, if it is not one of them, and says how many are listed then;
 // nothing where there is no place for it.
+#[tactic(auto, using(source::proofs::Chunks::length_rows_in, crate::proofs::Ascents::absent, crate::proofs::Ascents::in_inserted, crate::proofs::Ascents::ascending_inserted))]
 fn insert(memory: &mut [u32], places: usize, count: usize, answer: &[u32; 4]) -> Option<usize>
     requires room { 4 * places ≤ length memory.old }
     requires within { count ≤ places }

@@ -1,15 +1,9 @@
 use Rattle.std.proofs.Common.{ltb, leb, length, vec_len, sym, refl, arith}
-use Rattle.std.proofs.lemmas.Bool.{and_left, and_from, le-leb, lt-leb}
+use Rattle.std.proofs.lemmas.Bool.{and_from, le-leb}
 use Rattle.source.specs.Rows.{rows_in}
 use Rattle.source.proofs.Chunks.{length_rows_in}
 use Rattle.bounded.specs.Held.{held}
 use Rattle.layers.proofs.table.Table.remember.Goals as goal
-
-pub returns-then-count-gt-ENTRY_ROWS : goal.returns-then-count-gt-ENTRY_ROWS
-returns-then-count-gt-ENTRY_ROWS c =
-    let rows = rows_in (length (held c.args.asked.marks)) c.args.count c.args.memory.now in
-    let many = lt-leb (length rows) 8 (omega (arith, length_rows_in (length (held c.args.asked.marks)) c.args.count c.args.memory.now, c.if-count-gt-ENTRY_ROWS.true)) in
-    rw (and_left (leb (length rows) 8) (ltb c.args.self.now.used (vec_len c.args.self.now.entries)) many) refl
 
 pub returns-in-Some : goal.returns-in-Some
 returns-in-Some c =
