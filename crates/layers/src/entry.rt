@@ -37,6 +37,7 @@ impl Entry {
     }
 
     // The entry of the rows that stand from the start of the memory.
+    #[tactic(auto, using(crate::proofs::Storing::cut_rows, crate::proofs::Storing::cut_sound))]
     pub(crate) fn of(asked: Asked, count: usize, memory: &[u32]) -> Entry
         requires room { ENTRY_VALUES ≤ length memory.now }
         requires count { count ≤ ENTRY_ROWS }
