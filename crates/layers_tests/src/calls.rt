@@ -1,22 +1,15 @@
 // How calls end, in a form that tests can compare.
 use ends::{Divider, Register};
-use faults::Fault;
 use source::{ANSWER_ROOM, Source};
 use std::alloc::{AllocError, Global};
 use std::test::Fail;
 
-// The number and the layer of a refusal, or 0 and how many rows were answered.
-pub(crate) fn ending(res: Result<usize, Fault>) -> (u8, usize) {
-    match res {
-        Ok(count) => (0, count),
-        Err(fault) => (fault.refusal.number(), fault.layer as usize),
-    }
-}
-
-// How a call with one input ends.
-pub(crate) fn called<S: Source>(source: &mut S, input: u32) -> (u8, usize) {
+// How many rows a call with one input answers, or the number and the layer of its refusal.
+pub(crate) fn called<S: Source>(source: &mut S, input: u32) -> Result<usize, (u8, u8)> {
     let mut memory = [0; ANSWER_ROOM];
-    ending(source.call(&[input], &mut memory))
+    source
+        .call(&[input], &mut memory)
+        .map_err(|fault| (fault.refusal.number(), fault.layer))
 }
 
 // A divider of 1,000.

@@ -6,10 +6,10 @@ use std::test::Fail;
 #[test]
 fn without_units_all_inputs_are_barred(rt: HostRuntime) -> Result<(), Fail> {
     let mut quota = Quota::new(divider()?, 0);
-    assert_eq!(rt; called(&mut quota, 5), (31, 0));
+    assert_eq!(rt; called(&mut quota, 5), Err((31, 0)));
     assert_eq!(rt; quota.add(1), 1);
-    assert_eq!(rt; called(&mut quota, 5), (0, 1));
-    assert_eq!(rt; called(&mut quota, 5), (31, 0));
+    assert_eq!(rt; called(&mut quota, 5), Ok(1));
+    assert_eq!(rt; called(&mut quota, 5), Err((31, 0)));
     Ok(())
 }
 
@@ -19,7 +19,7 @@ fn more_than_a_million_units_are_lost(rt: HostRuntime) -> Result<(), Fail> {
     assert_eq!(rt; full.add(1), 0);
     let mut over = Quota::new(divider()?, 1000001);
     assert_eq!(rt; over.add(1), 0);
-    assert_eq!(rt; called(&mut over, 5), (0, 1));
+    assert_eq!(rt; called(&mut over, 5), Ok(1));
     assert_eq!(rt; over.add(7), 1);
     Ok(())
 }
@@ -27,8 +27,8 @@ fn more_than_a_million_units_are_lost(rt: HostRuntime) -> Result<(), Fail> {
 #[test]
 fn a_refused_call_takes_no_unit(rt: HostRuntime) -> Result<(), Fail> {
     let mut quota = Quota::new(Quota::new(divider()?, 0), 1);
-    assert_eq!(rt; called(&mut quota, 5), (31, 1));
-    assert_eq!(rt; called(&mut quota, 5), (31, 1));
+    assert_eq!(rt; called(&mut quota, 5), Err((31, 1)));
+    assert_eq!(rt; called(&mut quota, 5), Err((31, 1)));
     assert_eq!(rt; quota.add(1000000), 999999);
     Ok(())
 }

@@ -4,17 +4,18 @@ use layers::{Beside, One, Quota};
 use source::{ANSWER_ROOM, Rack};
 use std::test::Fail;
 
-// The number, layer and source of a refusal, or zeros.
-fn refusal<R: Rack>(
+// How many rows a call answers, or the number, the layer and the source of its refusal.
+fn called<R: Rack>(
     rack: &mut R,
     source: usize,
     inputs: &[u32],
     memory: &mut [u32],
-) -> (u8, u8, u8) {
-    match rack.call(source, inputs, memory) {
-        Ok(_) => (0, 0, 0),
-        Err(fault) => (fault.refusal.number(), fault.layer, fault.source),
-    }
+) -> Result<usize, (u8, u8, u8)> {
+    rack.call(source, inputs, memory).map_err(|fault| (
+        fault.refusal.number(),
+        fault.layer,
+        fault.source,
+    ))
 }
 
 #[test]
@@ -25,11 +26,11 @@ fn sources_are_numbered_from_0(rt: HostRuntime) -> Result<(), Fail> {
         Beside(Quota::new(divider()?, 1), One(divider()?)),
     );
     assert_eq!(rt; rack.count(), 3);
-    assert_eq!(rt; refusal(&mut rack, 1, &[2001], &mut memory), (0, 0, 0));
+    assert_eq!(rt; called(&mut rack, 1, &[2001], &mut memory), Ok(1));
     assert_eq!(rt; memory[1], 2);
-    assert_eq!(rt; refusal(&mut rack, 1, &[2001], &mut memory), (31, 0, 1));
-    assert_eq!(rt; refusal(&mut rack, 2, &[2001], &mut memory), (0, 0, 0));
-    assert_eq!(rt; refusal(&mut rack, 0, &[1], &mut memory), (0, 0, 0));
+    assert_eq!(rt; called(&mut rack, 1, &[2001], &mut memory), Err((31, 0, 1)));
+    assert_eq!(rt; called(&mut rack, 2, &[2001], &mut memory), Ok(1));
+    assert_eq!(rt; called(&mut rack, 0, &[1], &mut memory), Ok(2));
     assert_eq!(rt; memory[0], 1);
     Ok(())
 }
@@ -39,10 +40,13 @@ fn a_source_that_is_not_there_is_refused(rt: HostRuntime) -> Result<(), Fail> {
     let mut memory = [9; ANSWER_ROOM];
     let mut short = [9; 255];
     let mut rack = Beside(divider()?, One(divider()?));
-    assert_eq!(rt; refusal(&mut rack, 2, &[1], &mut memory), (23, 255, 255));
-    assert_eq!(rt; refusal(&mut rack, 2, &[1], &mut short), (21, 0, 255));
-    assert_eq!(rt; refusal(&mut rack, 1, &[1], &mut short), (21, 0, 1));
-    assert_eq!(rt; refusal(&mut rack, 1, &[], &mut memory), (23, 0, 1));
+    assert_eq!(rt;
+        called(&mut rack, 2, &[1], &mut memory),
+        Err((23, 255, 255))
+    );
+    assert_eq!(rt; called(&mut rack, 2, &[1], &mut short), Err((21, 0, 255)));
+    assert_eq!(rt; called(&mut rack, 1, &[1], &mut short), Err((21, 0, 1)));
+    assert_eq!(rt; called(&mut rack, 1, &[], &mut memory), Err((23, 0, 1)));
     assert!(rt; rack.marks(2).is_none());
     assert!(rt; rack.marks(1).is_some());
     Ok(())
