@@ -1,3 +1,4 @@
+pub mod Recalling
 pub mod Racking
 pub mod Answering
 pub mod Chunking

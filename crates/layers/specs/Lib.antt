@@ -2,5 +2,4 @@ pub mod Limits
 pub mod Entries
 pub mod Memory
 pub mod Memoizing
-pub mod Recalling
 pub mod Limiting

@@ -40,7 +40,7 @@ impl<S: Source> Source for Memo<S> {
         self.below.marks()
     }
 
-    #[tactic(auto, using(crate::specs::Memoizing::answered_from_entry, crate::specs::Memoizing::table_sound, crate::proofs::Answering::answered_there))]
+    #[tactic(auto, using(crate::specs::Memoizing::table_sound, crate::proofs::Answering::answered_there, crate::proofs::Answering::answered_from_entry))]
     fn call(&mut self, inputs: &[u32], memory: &mut [u32]) -> Result<usize, Fault>
         ensures called { Called (memoized (kept_all self.old.table) (S.Source.meaning self.old.below)) (memoized (kept_all self.new.table) (S.Source.meaning self.new.below)) inputs.now memory.old memory.new result }
         ensures below { Asks (kept_all self.old.table) (S.Source.meaning self.old.below) (S.Source.meaning self.new.below) inputs.now memory.old memory.new result }

@@ -3,8 +3,7 @@ use Rattle.source.specs.Marks.{inputs_of}
 use Rattle.source.specs.Calls.{Answered}
 use Rattle.bounded.specs.Held.{held}
 use Rattle.layers.specs.Memory.{kept_all, recalled, from_memory, Remembers}
-use Rattle.layers.specs.Memoizing.{answered_below, answer_sound, learned}
-use Rattle.layers.proofs.Answering.{answered_there}
+use Rattle.layers.proofs.Answering.{answered_there, answered_below, answer_sound, learned}
 use Rattle.layers.proofs.memo.MemoSource.call.Given.{Over}
 use Rattle.layers.proofs.memo.MemoSource.call.Goals.{After-new-asked, In_ok-count}
 use Rattle.layers.proofs.memo.MemoSource.call.Goals as goal
