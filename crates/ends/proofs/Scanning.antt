@@ -1,14 +1,17 @@
 -- Scanning rows for those that hold some inputs.
-use Rattle.std.proofs.Common.{◌≡◌, ℕ, zero, suc, ◌+◌, ◌*◌, ◌<◌, ◌≤◌, true, false, List, [], ◌∷◌, ◌++◌, map, length, get_or, take, drop, sym, refl, ap, ◌∙◌, subst, inl, inr, append_assoc, append-nil, arith, length-append, length-drop, take-append-drop}
-use Rattle.std.proofs.lemmas.List.{take_more, take-map, map_push, get_or-map, get_or-drop, get_or-take, length-take, take_at, drop_at, drop-drop}
+use Rattle.std.proofs.Common.{◌≡◌, ℕ, zero, suc, ◌+◌, ◌-◌, ◌*◌, ◌<◌, ◌≤◌, true, false, List, [], ◌∷◌, ◌++◌, map, length, get_or, take, drop, sym, refl, ap, ◌∙◌, subst, inl, inr, append_assoc, append-nil, arith, zero-mul, length-append, length-drop, take-append-drop}
+use Rattle.std.proofs.lemmas.List.{take_more, take-map, map_push, get_or-map, get_or-drop, get_or-take, length-take, take_at, take_rest, drop_at, drop-drop}
 use Rattle.std.proofs.lemmas.Bool.{cases_lt, both_ways}
+use Rattle.std.proofs.Math.Nat.{mul-le-mul}
 use Rattle.source.specs.declared.mark.Mark.{Mark}
 use Rattle.source.specs.declared.mark.Mark.TheVariants.{Given, Free}
 use Rattle.source.specs.Rows.{before, ascending, flat}
 use Rattle.source.specs.Marks.{inputs_of, picked, matches, matching}
 use Rattle.source.proofs.Rows.{same_eq, eq_same, before_irrefl}
 use Rattle.source.proofs.Matching.{matching_append}
-use Rattle.ends.specs.Lookup.{cut, found, Below, Beyond, Written}
+use Rattle.files.specs.Held.{cut}
+use Rattle.files.proofs.Holding.{flat_push}
+use Rattle.ends.specs.Lookup.{found, Below, Beyond, Written}
 use Rattle.ends.proofs.Searching.{earlier_before, front_cases, length_cut, false_from}
 
 -- Given columns that stand first.
@@ -68,11 +71,12 @@ module _ (marks : List Mark) (inputs : List ℕ) (cells : List (List ℕ)) where
   found_at_most i = omega (arith, ap length (found_split i), length-append (found marks inputs (take i cells)) (matching marks inputs (drop i rows)))
 
   -- there is room in the memory for one row more
-  pub room_for_row : (i count to : ℕ) (d : List ℕ) → length marks ≤ 4 → length (found marks inputs cells) ≤ 64 → i < length cells → matches marks inputs (row_at i d) ≡ true → count ≡ length (found marks inputs (take i cells)) → to ≤ 4 * count → (count + 1 ≤ 64) × (to + length marks ≤ 256)
-  room_for_row i count to d narrow few h m e t =
+  pub room_for_row : (i count : ℕ) (d : List ℕ) → length marks ≤ 4 → length (found marks inputs cells) ≤ 64 → i < length cells → matches marks inputs (row_at i d) ≡ true → count ≡ length (found marks inputs (take i cells)) → count * length marks + length marks ≤ 256
+  room_for_row i count d narrow few h m e =
       let more = ap length (found_one_more i d h m) ∙ length-append (found marks inputs (take i cells)) (row_at i d ∷ []) in
       let most = found_at_most (i + 1) in
-      (omega arith, omega arith)
+      let rows : count + 1 ≤ 64 = omega arith in
+      omega (arith, mul-le-mul rows narrow)
 
   module _ (ascends : ascending rows ≡ true) (as_many : length inputs ≡ inputs_of marks) (leading : inputs_of (take (length inputs) marks) ≡ length inputs) where
     front : (row : List ℕ) → picked marks row ≡ take (length inputs) row
@@ -118,13 +122,6 @@ module _ (marks : List Mark) (inputs : List ℕ) (cells : List (List ℕ)) where
 
 -- Writing what is found.
 
-pub flat_push : (had : List (List ℕ)) (row : List ℕ) → flat (had ++ row ∷ []) ≡ flat had ++ row
-flat_push [] row = append-nil row
-flat_push (r ∷ rs) row = ap (λ z. r ++ z) (flat_push rs row) ∙ sym (append_assoc r (flat rs) row)
-
-pub written_none : (memory : List ℕ) → Written [] memory memory
-written_none memory = refl
-
 -- a row more behind those that stand
 pub written_one_more : (had : List (List ℕ)) (row memory memory' memory'' : List ℕ) (to : ℕ) → to ≡ length (flat had) → Written had memory memory' → memory'' ≡ take to memory' ++ (row ++ drop (to + length row) memory') → Written (had ++ row ∷ []) memory memory''
 written_one_more had row memory memory' memory'' to e w h =
@@ -134,24 +131,33 @@ written_one_more had row memory memory' memory'' to e w h =
     h ∙ rw (front, beyond, flat_push had row, length-append (flat had) row) (sym (append_assoc (flat had) row (drop (length (flat had) + length row) memory)))
 
 -- What a scan has done up to a place.
-abbrev pub Scanned : List Mark → List ℕ → List (List ℕ) → List ℕ → ℕ → ℕ → ℕ → List ℕ → Type 0
-Scanned marks inputs cells memory i count to memory' =
-    (count ≡ length (found marks inputs (take i cells)))
-    × (to ≡ length (flat (found marks inputs (take i cells))))
-    × (to ≤ 4 * count)
-    × Written (found marks inputs (take i cells)) memory memory'
+pub record Scanned (marks : List Mark) (inputs : List ℕ) (cells : List (List ℕ)) (memory : List ℕ) (i count : ℕ) (memory' : List ℕ) : Type 0 where
+  pub counted : count ≡ length (found marks inputs (take i cells))
+  pub long : count * length marks ≡ length (flat (found marks inputs (take i cells)))
+  pub written : Written (found marks inputs (take i cells)) memory memory'
 
-module _ (marks : List Mark) (inputs : List ℕ) (cells : List (List ℕ)) (memory : List ℕ) where
-  pub scanned_one_more : (i count to : ℕ) (row memory' memory'' : List ℕ) → i < length cells → row ≡ take (length marks) (get_or cells i []) → length row ≡ length marks → length marks ≤ 4 → matches marks inputs row ≡ true → memory'' ≡ take to memory' ++ (row ++ drop (to + length row) memory') → Scanned marks inputs cells memory i count to memory' → Scanned marks inputs cells memory (i + 1) (count + 1) (to + length marks) memory''
-  scanned_one_more i count to row memory' memory'' h is long narrow m w s =
+pub scanned_none : (marks : List Mark) (inputs : List ℕ) (cells : List (List ℕ)) (memory : List ℕ) (i : ℕ) → found marks inputs (take i cells) ≡ [] → Scanned marks inputs cells memory i 0 memory
+scanned_none marks inputs cells memory i e = record { counted = rw e refl; long = rw e (zero-mul (length marks)); written = rw e refl }
+
+module _ (marks : List Mark) (inputs : List ℕ) (cells : List (List ℕ)) (memory : List ℕ) (i count : ℕ) (row memory' : List ℕ) (inside : i < length cells) (is : row ≡ take (length marks) (get_or cells i [])) (scanned : Scanned marks inputs cells memory i count memory') where
+  pub scanned_one_more : (memory'' : List ℕ) → length row ≡ length marks → matches marks inputs row ≡ true → memory'' ≡ take (count * length marks) memory' ++ (row ++ drop (count * length marks + length row) memory') → Scanned marks inputs cells memory (i + 1) (count + 1) memory''
+  scanned_one_more memory'' long m w =
       let had = found marks inputs (take i cells) in
-      let more : found marks inputs (take (i + 1) cells) ≡ had ++ row ∷ [] = found_one_more marks inputs cells i [] h (subst (λ z. matches marks inputs z ≡ true) is m) ∙ ap (λ z. had ++ z ∷ []) (sym is) in
-      rw more (
-        (omega (arith, s.0, length-append had (row ∷ []))),
-        (omega (arith, s.1, long, ap length (flat_push had row) ∙ length-append (flat had) row)),
-        omega (arith, s.2),
-        written_one_more had row memory memory' memory'' to s.1 s.3 w,
-      )
+      let more : found marks inputs (take (i + 1) cells) ≡ had ++ row ∷ [] = found_one_more marks inputs cells i [] inside (subst (λ z. matches marks inputs z ≡ true) is m) ∙ ap (λ z. had ++ z ∷ []) (sym is) in
+      record {
+        counted = rw more (omega (arith, scanned.counted, length-append had (row ∷ [])));
+        long = rw more (omega (arith, scanned.long, long, ap length (flat_push had row) ∙ length-append (flat had) row));
+        written = rw more (written_one_more had row memory memory' memory'' (count * length marks) scanned.long scanned.written w);
+      }
 
-  pub scanned_no_more : (i count to : ℕ) (row memory' : List ℕ) → i < length cells → row ≡ take (length marks) (get_or cells i []) → matches marks inputs row ≡ false → Scanned marks inputs cells memory i count to memory' → Scanned marks inputs cells memory (i + 1) count to memory'
-  scanned_no_more i count to row memory' h is m s = rw (found_no_more marks inputs cells i [] h (subst (λ z. matches marks inputs z ≡ false) is m)) s
+  pub scanned_no_more : matches marks inputs row ≡ false → Scanned marks inputs cells memory (i + 1) count memory'
+  scanned_no_more m =
+      let same = found_no_more marks inputs cells i [] inside (subst (λ z. matches marks inputs z ≡ false) is m) in
+      record { counted = rw same scanned.counted; long = rw same scanned.long; written = rw same scanned.written }
+
+-- the row of a part of the cells, from a place on
+pub part_inside : (cells : List (List ℕ)) (start k : ℕ) → k < length (take (length cells - start) (drop start cells)) → start + k < length cells
+part_inside cells start k h = omega (arith, ap length (take_rest cells start), length-drop start cells)
+
+pub part_row : (cells : List (List ℕ)) (start k : ℕ) → get_or (take (length cells - start) (drop start cells)) k [] ≡ get_or cells (start + k) []
+part_row cells start k = ap (λ z. get_or z k []) (take_rest cells start) ∙ get_or-drop start cells k []

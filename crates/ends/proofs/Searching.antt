@@ -1,11 +1,13 @@
 -- Halving: rows that ascend, around a list of inputs.
-use Rattle.std.proofs.Common.{◌≡◌, ℕ, zero, suc, ◌+◌, ◌<◌, ◌≤◌, Bool, true, false, ◌⊎◌, List, [], ◌∷◌, length, get_or, take, sym, refl, ap, ◌∙◌, subst, inl, inr, arith}
+use Rattle.std.proofs.Common.{◌≡◌, ℕ, zero, suc, ◌<◌, ◌≤◌, Bool, true, false, ◌⊎◌, List, [], ◌∷◌, length, get_or, take, sym, refl, ap, ◌∙◌, subst, inl, inr, arith}
 use lib.ListN.{length-map}
 use Rattle.std.proofs.lemmas.List.{take-take, get_or-map}
-use Rattle.std.proofs.lemmas.Bool.{cases_lt, false≢true, both_ways}
+use Rattle.std.proofs.lemmas.Bool.{cases_lt, false≢true}
+use Rattle.std.specs.List.Sorted.{IsPartitionedBy, IsPartitionPoint}
 use Rattle.source.specs.Rows.{before, is_in, ascending}
 use Rattle.source.proofs.Rows.{before_cases, before_at_head, before_in_tail, before_trans, in_head, in_tail, ascending_tail, head_before_all}
-use Rattle.ends.specs.Lookup.{cut, Below, Beyond}
+use Rattle.files.specs.Held.{cut}
+use Rattle.ends.specs.Lookup.{Below, Beyond}
 
 row_in_rows : (rows : List (List ℕ)) (i : ℕ) → i < length rows → is_in (get_or rows i []) rows ≡ true
 row_in_rows [] i h = let z : ⊥ = omega arith in absurd z
@@ -51,21 +53,28 @@ module _ (rows : List (List ℕ)) (inputs : List ℕ) (ascends : ascending rows 
     | inr e ↦ subst (λ z. before z inputs ≡ true) (sym e) b
   ]
 
-  pub below_raised : (middle : ℕ) → middle < length rows → before (front middle) inputs ≡ true → Below rows inputs (middle + 1)
-  below_raised middle l b j h = elim (cases_lt j middle) [
-    | inl a ↦ carried_down j middle a l b
-    | inr a ↦ (let e : middle ≡ j = omega arith in subst (λ z. before (front z) inputs ≡ true) e b)
-  ]
-
-  pub beyond_lowered : (middle : ℕ) → before (front middle) inputs ≡ false → Beyond rows inputs middle
-  beyond_lowered middle b j h l = elim (cases_lt middle j) [
-    | inl a ↦ false_from (before (front j) inputs) (λ t. both_ways (before (front middle) inputs) b (carried_down middle j a l t))
-    | inr a ↦ (let e : middle ≡ j = omega arith in subst (λ z. before (front z) inputs ≡ false) e b)
-  ]
-
 -- the first columns of a row that stands in cells
 pub front_of_cells : (cells : List (List ℕ)) (columns k i : ℕ) (d : List ℕ) → k ≤ columns → i < length cells → take k (get_or (cut columns cells) i []) ≡ take k (get_or cells i d)
 front_of_cells cells columns k i d h l = ap (take k) (get_or-map (take columns) cells i d [] l) ∙ take-take k columns (get_or cells i d) h
 
 pub length_cut : (columns : ℕ) (cells : List (List ℕ)) → length (cut columns cells) ≡ length cells
 length_cut columns cells = length-map cells (take columns)
+
+-- the cells are parted by whether their first columns come before the inputs
+pub parted : (columns : ℕ) (cells : List (List ℕ)) (inputs : List ℕ) → length inputs ≤ columns → ascending (cut columns cells) ≡ true → IsPartitionedBy (λ cell. before (take (length inputs) cell) inputs) cells
+parted columns cells inputs few ascends i j d h l b = elim (cases_lt i j) [
+  | inl a ↦ (let inside : j < length (cut columns cells) = omega (arith, length_cut columns cells) in
+      let at_j = ap (λ (z : List ℕ). before z inputs) (front_of_cells cells columns (length inputs) j d few l) in
+      let at_i = ap (λ (z : List ℕ). before z inputs) (front_of_cells cells columns (length inputs) i d few (omega arith)) in
+      sym at_i ∙ carried_down (cut columns cells) inputs ascends i j a inside (at_j ∙ b))
+  | inr a ↦ (let e : j ≡ i = omega arith in subst (λ (z : ℕ). before (take (length inputs) (get_or cells z d)) inputs ≡ true) e b)
+]
+
+module _ (columns : ℕ) (cells : List (List ℕ)) (inputs : List ℕ) (few : length inputs ≤ columns) (place : ℕ) (point : IsPartitionPoint (λ cell. before (take (length inputs) cell) inputs ≡ true) (λ cell. before (take (length inputs) cell) inputs ≡ false) cells place) (inside : place ≤ length cells) where
+  pub below_point : Below (cut columns cells) inputs place
+  below_point j h = ap (λ (z : List ℕ). before z inputs) (front_of_cells cells columns (length inputs) j [] few (omega arith)) ∙ point.0 j [] (omega arith) h
+
+  pub beyond_point : Beyond (cut columns cells) inputs place
+  beyond_point j h l =
+      let k : j < length cells = omega (arith, length_cut columns cells) in
+      ap (λ (z : List ℕ). before z inputs) (front_of_cells cells columns (length inputs) j [] few k) ∙ point.1 j [] h k

@@ -1,16 +1,17 @@
 -- Rows in cells of four, and how they lie around a list of inputs.
-use Rattle.std.specs.Prelude.{◌≡◌, ℕ, ◌<◌, ◌≤◌, true, false, List, [], ◌++◌, map, length, take, drop, slice_index_or}
+use Rattle.std.specs.Prelude.{◌≡◌, ℕ, ◌<◌, ◌≤◌, Bool, true, false, List, [], ◌++◌, length, take, drop, slice_index_or, ◌==◌}
 use Rattle.source.specs.declared.mark.Mark.{Mark}
 use Rattle.source.specs.Rows.{before, flat}
-use Rattle.source.specs.Marks.{matching}
-
--- the rows of so many columns that stand in the cells
-abbrev pub cut : ℕ → List (List ℕ) → List (List ℕ)
-cut columns cells = map (take columns) cells
+use Rattle.source.specs.Marks.{inputs_of, matching}
+use Rattle.files.specs.Held.{cut}
 
 -- the rows in the cells that hold the inputs
 abbrev pub found : List Mark → List ℕ → List (List ℕ) → List (List ℕ)
 found marks inputs cells = matching marks inputs (cut (length marks) cells)
+
+-- whether the given columns, one for each of the inputs, stand before the free ones
+abbrev pub leads : List Mark → List ℕ → Bool
+leads marks inputs = inputs_of (take (length inputs) marks) == length inputs
 
 -- each row before the place comes before the inputs in its first columns
 abbrev pub Below : List (List ℕ) → List ℕ → ℕ → Type 0

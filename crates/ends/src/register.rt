@@ -6,7 +6,7 @@ ghost use Rattle.files.proofs.Storing.{table_storable};
 ghost use Rattle.source.proofs.Matching.{each_whole};
 ghost use Rattle.ends.specs.Storing;
 
-use crate::lookup::write_matching;
+use crate::lookup::Lookup;
 use faults::Fault;
 use files::Table;
 use source::{Mark, Source, admit};
@@ -32,13 +32,8 @@ impl Register {
     pub fn open(&mut self, bytes: &[u8]) -> Result<(), Fault>
         ensures opened { Reopened bytes.now self.old.table self.new.table result }
     {
-        match Table::read(bytes) {
-            Ok(table) => {
-                self.table = table;
-                Ok(())
-            }
-            Err(fault) => Err(fault),
-        }
+        self.table = Table::read(bytes)?;
+        Ok(())
     }
 }
 
@@ -57,7 +52,10 @@ impl Source for Register {
 
     fn call(&mut self, inputs: &[u32], memory: &mut [u32]) -> Result<usize, Fault> {
         admit(self.table.marks(), inputs, memory.len())?;
-        let count = write_matching(self.table.marks(), self.table.rows(), inputs, memory);
-        Ok(count)
+        let lookup = Lookup {
+            table: &self.table,
+            inputs,
+        };
+        Ok(lookup.write(memory))
     }
 }

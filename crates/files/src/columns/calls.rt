@@ -80,10 +80,12 @@ impl Columns {
 
     // The values of a row that stands in four cells.
     pub(crate) fn values<'a>(&self, row: &'a [u32; 4]) -> &'a [u32]
-        ensures { result.now ≡ take (length (columns_marks self.now)) row.now }
+        ensures value { result.now ≡ take (length (columns_marks self.now)) row.now }
+        ensures len { length result.now ≡ length (columns_marks self.now) }
     {
         &row[..self.width()]
     }
+
     // Whether two rows have the same inputs.
     fn same_inputs(&self, a: &[u32; 4], b: &[u32; 4]) -> bool
         ensures { result ≡ matches (columns_marks self.now) (picked (columns_marks self.now) b.now) a.now }

@@ -1,4 +1,4 @@
-ghost use Rattle.std.specs.Prelude.{◌≡◌, [], ◌∷◌};
+ghost use Rattle.std.specs.Prelude.{◌≡◌, [], ◌∷◌, length, take};
 ghost use Rattle.source.specs.declared.mark.Mark.TheVariants.{Free};
 ghost use Rattle.files.specs.Tables.{table_marks, table_rows, table_cells, Opened, Exactly, Made};
 ghost use Rattle.files.specs.Making.{Wrote, FileWritten};
@@ -53,6 +53,14 @@ impl Table {
         ensures value { result.now ≡ table_cells self.now }
     {
         self.rows.cells()
+    }
+
+    // The values of a row that stands in four cells: one for each column.
+    pub fn values<'a>(&self, row: &'a [u32; 4]) -> &'a [u32]
+        ensures value { result.now ≡ take (length (table_marks self.now)) row.now }
+        ensures len { length result.now ≡ length (table_marks self.now) }
+    {
+        self.rows.columns().values(row)
     }
 
     // Writes the file from the start of the memory, and returns its length. Refused if the memory is

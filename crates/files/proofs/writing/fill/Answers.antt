@@ -14,14 +14,14 @@ pub put_values-to-requires-in-loop-row : goal.put_values-to-requires-in-loop-row
 put_values-to-requires-in-loop-row c =
     let r = c.args.rows.now in
     let inside : c.loop-row.row-index < length (rows_cells r) = rw c.cells-row-items.ensures at c.loop-row-test.true in
-    let values : c.values.result.now ≡ take (length (rows_marks r)) (get_or (rows_cells r) c.loop-row.row-index []) = rw (c.columns.ensures, c.cells-row-items.ensures) at c.values.ensures in
+    let values : c.values.result.now ≡ take (length (rows_marks r)) (get_or (rows_cells r) c.loop-row.row-index []) = rw (c.columns.ensures, c.cells-row-items.ensures) at c.values.ensures.value in
     omega (arith, c.requires, c.loop-row.invariant.0, ap (λ (x : List ℕ). length (encodes x)) values, row_fits (rows_marks r) (length (rows_values r)) (length (rows_marks r)) c.loop-row.row-index (rows_cells r) inside)
 
 pub loop-row-preserved : goal.loop-row-preserved
 loop-row-preserved c =
     let r = c.args.rows.now in
     let inside : c.loop-row.row-index < length (rows_cells r) = rw c.cells-row-items.ensures at c.loop-row-test.true in
-    let values : c.values.result.now ≡ take (length (rows_marks r)) (get_or (rows_cells r) c.loop-row.row-index []) = rw (c.columns.ensures, c.cells-row-items.ensures) at c.values.ensures in
+    let values : c.values.result.now ≡ take (length (rows_marks r)) (get_or (rows_cells r) c.loop-row.row-index []) = rw (c.columns.ensures, c.cells-row-items.ensures) at c.values.ensures.value in
     let fits = row_fits (rows_marks r) (length (rows_values r)) (length (rows_marks r)) c.loop-row.row-index (rows_cells r) inside in
     let put : Put c.loop-row.memory c.put_values-to-in-loop-row.new.memory c.loop-row.to c.put_values-to-in-loop-row.result c.values.result.now = (c.put_values-to-in-loop-row.ensures.place, c.put_values-to-in-loop-row.ensures.filled) in
     put_row _ _ _ c.loop-row.to _ _ _ c.loop-row.row-index (rows_marks r) (rows_cells r) inside (omega (arith, c.requires)) c.loop-row.invariant (rw values at put)

@@ -11,4 +11,4 @@ returns-in_default c =
 pub returns : goal.returns
 returns c =
     let some = rw c.cells.ensures at c.in-Some.ensures.value in
-    c.comes_before.ensures.value ∙ rw (c.values.ensures, c.values-2.ensures) (sym (follows_last (length (rows_marks c.args.self.now)) (rows_cells c.args.self.now) _ _ some c.args.self.now.ascends))
+    c.comes_before.ensures.value ∙ rw (c.values.ensures.value, c.values-2.ensures.value) (sym (follows_last (length (rows_marks c.args.self.now)) (rows_cells c.args.self.now) _ _ some c.args.self.now.ascends))
