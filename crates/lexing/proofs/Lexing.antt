@@ -1,6 +1,9 @@
 -- Tokens, one at a time.
-use Rattle.std.proofs.Common.{◌≡◌, ℕ, ◌+◌, ◌-◌, ◌<◌, ◌≤◌, Bool, true, false, cond, ◌&&◌, ◌||◌, eqb, List, [], ◌∷◌, ◌++◌, length, get_or, take, drop, sym, refl, ap, ◌∙◌, subst, add-zero, arith, take-append-drop, ne_eqb, eqb-true}
-use Rattle.std.proofs.lemmas.List.{drop-drop, take_more, drop_more, get_or-drop, length-drop, length-take}
+use Rattle.std.proofs.Common.{◌≡◌, ℕ, suc, ◌+◌, ◌<◌, ◌≤◌, Bool, true, false, cond, ◌&&◌, ◌||◌, eqb, List, [], ◌∷◌, ◌++◌, length, get_or, take, drop, sym, refl, ap, ◌∙◌, subst, arith, take-append-drop, ne_eqb, eqb-true}
+use Rattle.std.specs.List.{prefix_len}
+use native.Mathlib.Nat.{sub-zero}
+use Rattle.std.proofs.lemmas.List.Sums.{prefix_len-le-length}
+use Rattle.std.proofs.lemmas.List.Folds.{length-prefix_len}
 use Rattle.lexing.specs.Classes.{class, lettered}
 use Rattle.lexing.specs.Names.{all}
 use Rattle.lexing.specs.Tokens.{Token, tokens, before, joins, is, Cut}
@@ -108,51 +111,31 @@ one_byte b (x ∷ xs) l h = alone b x xs (λ m. rw l (go (eqb b 58) refl m))
     go true e [] = ne_eqb x 45 (h (eqb-true b 58 e) (omega arith))
     go true e (y ∷ m) = refl
 
--- by places
-module _ (text : List ℕ) (p r : ℕ) where
-  parted : p ≤ r → take (r - p) (drop p text) ++ drop r text ≡ drop p text
-  parted h =
-      let e : p + (r - p) ≡ r = omega arith in
-      ap (λ (x : List ℕ). take (r - p) (drop p text) ++ x) (sym (drop-drop (r - p) p text ∙ ap (λ (n : ℕ). drop n text) e)) ∙ take-append-drop (r - p) (drop p text)
+-- the first token: a run of letters and digits, `:-`, or one byte
+run_parts : (bs : List ℕ) → (all lettered (take (prefix_len lettered bs) bs) ≡ true) × (starts_lettered (drop (prefix_len lettered bs) bs) ≡ false)
+run_parts [] = (refl, refl)
+run_parts (x ∷ bs) = go (lettered x) refl (run_parts bs)
+  where
+    go : (c : Bool) → lettered x ≡ c → (all lettered (take (prefix_len lettered bs) bs) ≡ true) × (starts_lettered (drop (prefix_len lettered bs) bs) ≡ false) →
+        (all lettered (take (cond c (1 + prefix_len lettered bs) 0) (x ∷ bs)) ≡ true) × (starts_lettered (drop (cond c (1 + prefix_len lettered bs) 0) (x ∷ bs)) ≡ false)
+    go true e h = let n : 1 + prefix_len lettered bs ≡ suc (prefix_len lettered bs) = omega arith in rw n (rw e h.0, h.1)
+    go false e h = (refl, e)
 
-  stops : (r < length text → lettered (get_or text r 0) ≡ false) → starts_lettered (drop r text) ≡ false
-  stops f = go (drop r text) refl
-    where
-      go : (xs : List ℕ) → drop r text ≡ xs → starts_lettered xs ≡ false
-      go [] e = refl
-      go (x ∷ xs) e = let z = ap length e in let y = length-drop r text in let h : r < length text = omega arith in
-          let s = drop_more text r 0 h in let w : x ≡ get_or text r 0 = cc in rw w (f h)
+pub run_first : (bs : List ℕ) → 0 < length bs → lettered (get_or bs 0 0) ≡ true → Cut bs 0 (prefix_len lettered bs)
+run_first [] h l = absurd (omega arith)
+run_first (x ∷ bs) h l =
+    let n = prefix_len lettered (x ∷ bs) in
+    let r = run_parts (x ∷ bs) in
+    let p : 0 < prefix_len lettered (x ∷ bs) = rw l (omega arith) in
+    let m = prefix_len-le-length lettered (x ∷ bs) in
+    let w : 0 < length (take n (x ∷ bs)) = rw (length-prefix_len lettered (x ∷ bs)) p in
+    record { after = p; within = m; cut = rw (sub-zero n) (ap tokens (sym (take-append-drop n (x ∷ bs))) ∙ one_word (take n (x ∷ bs)) (drop n (x ∷ bs)) w r.0 r.1) }
 
-  pub word_cut : p < r → r ≤ length text → all lettered (take (r - p) (drop p text)) ≡ true → (r < length text → lettered (get_or text r 0) ≡ false) → Cut text p r
-  word_cut a b l f =
-      let n : 0 < length (take (r - p) (drop p text)) = simp (length-take, length-drop) (omega arith) in
-      record { after = a; within = b; cut = ap tokens (sym (parted (omega arith))) ∙ one_word (take (r - p) (drop p text)) (drop r text) n l (stops f) }
+pub arrow_first : (bs : List ℕ) → 1 < length bs → get_or bs 0 0 ≡ 58 → get_or bs 1 0 ≡ 45 → Cut bs 0 2
+arrow_first (x ∷ y ∷ bs) h a b = record { after = omega arith; within = omega arith; cut = rw (a, b) (one_arrow bs) }
+arrow_first (x ∷ []) h a b = absurd (omega arith)
+arrow_first [] h a b = absurd (omega arith)
 
-all_push : (f : ℕ → Bool) (xs : List ℕ) (x : ℕ) → all f xs ≡ true → f x ≡ true → all f (xs ++ x ∷ []) ≡ true
-all_push f [] x a e = rw e refl
-all_push f (y ∷ xs) x a e = rw (and_0 (f y) (all f xs) a) (all_push f xs x (and_1 (f y) (all f xs) a) e)
-
-pub all_more : (text : List ℕ) (p r : ℕ) → p ≤ r → r < length text → all lettered (take (r - p) (drop p text)) ≡ true → lettered (get_or text r 0) ≡ true → all lettered (take (r + 1 - p) (drop p text)) ≡ true
-all_more text p r a b l e =
-    let n : r + 1 - p ≡ (r - p) + 1 = omega arith in
-    let h : r - p < length (drop p text) = simp length-drop (omega arith) in
-    let s : p + (r - p) ≡ r = omega arith in
-    let g : get_or (drop p text) (r - p) 0 ≡ get_or text r 0 = get_or-drop p text (r - p) 0 ∙ ap (λ (i : ℕ). get_or text i 0) s in
-    rw n (rw (take_more (drop p text) (r - p) 0 h) (all_push lettered (take (r - p) (drop p text)) (get_or (drop p text) (r - p) 0) l (rw g e)))
-
-pub all_one : (text : List ℕ) (p : ℕ) → p < length text → lettered (get_or text p 0) ≡ true → all lettered (take (p + 1 - p) (drop p text)) ≡ true
-all_one text p a e = all_more text p p (omega arith) a (let n : p - p ≡ 0 = omega arith in rw n refl) e
-
-pub byte_cut : (text : List ℕ) (p : ℕ) → p < length text → lettered (get_or text p 0) ≡ false → (get_or text p 0 ≡ 58 → p + 1 < length text → get_or text (p + 1) 0 ≡ 45 → ⊥) → Cut text p (p + 1)
-byte_cut text p h l f =
-    let n : p + 1 - p ≡ 1 = omega arith in
-    let d = drop_more text p 0 h in
-    let g : get_or (drop (p + 1) text) 0 0 ≡ get_or text (p + 1) 0 = get_or-drop (p + 1) text 0 0 ∙ ap (λ (i : ℕ). get_or text i 0) (add-zero (p + 1)) in
-    record { after = omega arith; within = omega arith; cut = rw n (rw d (one_byte (get_or text p 0) (drop (p + 1) text) l (λ e b c. f e (let z = length-drop (p + 1) text in omega arith) (sym g ∙ c)))) }
-
-pub arrow_cut : (text : List ℕ) (p : ℕ) → p + 1 < length text → get_or text p 0 ≡ 58 → get_or text (p + 1) 0 ≡ 45 → Cut text p (p + 2)
-arrow_cut text p h a b =
-    let n : p + 2 - p ≡ 2 = omega arith in
-    let i : p + 1 + 1 ≡ p + 2 = omega arith in
-    let d : drop p text ≡ 58 ∷ 45 ∷ drop (p + 2) text = drop_more text p 0 (omega arith) ∙ rw (drop_more text (p + 1) 0 h) (rw (a, b, i) refl) in
-    record { after = omega arith; within = omega arith; cut = rw n (rw d (one_arrow (drop (p + 2) text))) }
+pub byte_first : (bs : List ℕ) → 0 < length bs → lettered (get_or bs 0 0) ≡ false → (get_or bs 0 0 ≡ 58 → 1 < length bs → get_or bs 1 0 ≡ 45 → ⊥) → Cut bs 0 1
+byte_first [] h l f = absurd (omega arith)
+byte_first (x ∷ bs) h l f = record { after = omega arith; within = omega arith; cut = one_byte x bs l (λ a b d. f a (omega arith) d) }

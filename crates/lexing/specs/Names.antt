@@ -3,9 +3,9 @@ use Rattle.std.specs.Prelude.{◌≡◌, ℕ, suc, Bool, true, false, cond, ◌&
 use Rattle.std.specs.List.{list_all}
 use Rattle.std.specs.Option.{option_map}
 use Rattle.std.specs.Str.{bytes_eq}
-use Rattle.lexing.specs.Classes.{lower, upper, name_byte, lettered, digit}
+use Rattle.lexing.specs.Classes.{lower, upper, name_byte, lettered, digit, blank}
 use Rattle.lexing.specs.declared.name.Alphabet.{Alphabet}
-use Rattle.lexing.specs.declared.name.Alphabet.TheVariants.{Names, Words, Digits, Lower, Upper}
+use Rattle.lexing.specs.declared.name.Alphabet.TheVariants.{Names, Words, Digits, Lower, Upper, Blanks}
 use Rattle.lexing.specs.Tokens.{Token}
 
 -- all bytes pass a test
@@ -19,6 +19,7 @@ belongs Words b = lettered b
 belongs Digits b = digit b
 belongs Lower b = lower b
 belongs Upper b = upper b
+belongs Blanks b = blank b
 
 -- a byte of one alphabet with bytes of another behind it
 abbrev pub is_identifier : Alphabet → Alphabet → Token → Bool

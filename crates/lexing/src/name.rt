@@ -25,6 +25,8 @@ pub enum Alphabet {
     Lower,
     // Upper-case letters.
     Upper,
+    // A space and a newline.
+    Blanks,
 }
 
 impl Alphabet {
@@ -39,6 +41,7 @@ impl Alphabet {
             Alphabet::Digits => class == Class::Digit,
             Alphabet::Lower => class == Class::Lower,
             Alphabet::Upper => class == Class::Upper,
+            Alphabet::Blanks => class == Class::Blank,
         }
     }
 }

@@ -1,34 +1,30 @@
 // Cuts a text into tokens.
-ghost use Rattle.std.specs.Prelude.{◌≡◌, ◌<◌, ◌≤◌, true, length, slice_index};
+ghost use Rattle.std.specs.Prelude.{◌≡◌, ◌<◌, ◌≤◌, length};
+ghost use Rattle.std.specs.List.{prefix_len};
 ghost use Rattle.lexing.specs.Classes.{lettered};
 ghost use Rattle.lexing.specs.Tokens.{Cut, is, is_blank_token, tokens, placed};
 
-use crate::class::{Class, class_of};
+use crate::name::Alphabet;
 
-fn is_lettered(byte: u8) -> bool
-    ensures value { result ≡ lettered byte }
+// How many letters and digits come first.
+fn run_length(bytes: &[u8]) -> usize
+    ensures value { result ≡ prefix_len lettered bytes.now }
 {
-    match class_of(byte) {
-        Class::Lower => true,
-        Class::Upper => true,
-        Class::Digit => true,
-        Class::Blank => false,
-        Class::Punctuation => false,
-        Class::Other => false,
-    }
+    let run = bytes.iter().take_while(|byte| Alphabet::Words.has(**byte));
+    run.count()
 }
 
-// The end of the run of letters and digits that begins at a place.
-fn run_end(text: &[u8], at: usize) -> usize
-    requires inside { at < length text.now }
-    requires begins { lettered (slice_index text.now at) ≡ true }
-    ensures cut { Cut text.now at result }
+// How many bytes the first token has; none where there is none.
+#[tactic(auto, using(crate::proofs::Lexing::run_first, crate::proofs::Lexing::arrow_first, crate::proofs::Lexing::byte_first))]
+fn token_length(bytes: &[u8]) -> usize
+    ensures cut { 0 < length bytes.now → Cut bytes.now 0 result }
 {
-    let mut end = at + 1;
-    while end < text.len() && is_lettered(text[end]) {
-        end += 1;
+    match bytes {
+        [] => 0,
+        [b':', b'-', ..] => 2,
+        [first, ..] if Alphabet::Words.has(*first) => run_length(bytes),
+        _ => 1,
     }
-    end
 }
 
 // The place behind the token that begins at a place; behind the text it is the place itself.
@@ -39,14 +35,7 @@ pub fn token_end(text: &[u8], at: usize) -> usize
     if at >= text.len() {
         return at;
     }
-    let first = text[at];
-    if is_lettered(first) {
-        return run_end(text, at);
-    }
-    if first == b':' && at + 1 < text.len() && text[at + 1] == b'-' {
-        return at + 2;
-    }
-    at + 1
+    at + token_length(&text[at..])
 }
 
 // A token of a text, and the place of its first byte.
@@ -102,22 +91,12 @@ impl<'a> Iterator for Tokens<'a> {
 pub fn is_byte(token: &[u8], byte: u8) -> bool
     ensures value { result ≡ is byte token.now }
 {
-    token.len() == 1 && token[0] == byte
+    matches!(token, [only] if *only == byte)
 }
 
 // Whether a token is a space or a newline.
 pub fn is_blank(token: &[u8]) -> bool
     ensures value { result ≡ is_blank_token token.now }
 {
-    if token.len() == 0 {
-        return false;
-    }
-    match class_of(token[0]) {
-        Class::Lower => false,
-        Class::Upper => false,
-        Class::Digit => false,
-        Class::Blank => true,
-        Class::Punctuation => false,
-        Class::Other => false,
-    }
+    matches!(token, [first, ..] if Alphabet::Blanks.has(*first))
 }

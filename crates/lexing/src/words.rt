@@ -1,10 +1,9 @@
 // The word at a fault.
 ghost use Rattle.std.specs.Prelude.{◌≡◌, length};
 ghost use Rattle.faults.specs.Refusals.{number};
-ghost use Rattle.lexing.specs.Classes.{blank};
 ghost use Rattle.lexing.specs.Words.{text_of, Word, WordAt};
 
-use crate::class::{Class, class_of};
+use crate::name::Alphabet;
 use faults::Fault;
 
 // How many bytes of a text are shown at most.
@@ -21,24 +20,14 @@ fn text_of<'a>(number: u8, catalogue: &'a [u8], query: &'a [u8]) -> &'a [u8]
     }
 }
 
-fn is_blank(byte: u8) -> bool
-    ensures value { result ≡ blank byte }
-{
-    match class_of(byte) {
-        Class::Blank => true,
-        _ => false,
-    }
-}
-
 // How many bytes stand before the next blank or the end, up to the most that are shown.
 fn word_length(bytes: &[u8]) -> usize
     ensures value { Word bytes.now result }
 {
-    let mut n = 0;
-    while n < WORD_MAX && n < bytes.len() && !is_blank(bytes[n]) {
-        n += 1;
-    }
-    n
+    let shown = bytes.iter().take(WORD_MAX);
+    shown
+        .take_while(|byte| !Alphabet::Blanks.has(**byte))
+        .count()
 }
 
 // The part of the catalogue's or the query's text at which a fault stands, by the fault's number
