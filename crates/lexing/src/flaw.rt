@@ -28,10 +28,8 @@ impl From<Flaw> for Fault {
 pub fn with_length(found: Flaw, length: usize, limit: Refusal) -> Flaw
     ensures value { result ≡ first_flaw found length limit }
 {
-    if length <= TEXT_MAX || found.place < TEXT_MAX {
-        return found;
-    }
-    if found.place == TEXT_MAX && found.refusal.number() <= limit.number() {
+    let in_time = (found.place, found.refusal.number()) <= (TEXT_MAX, limit.number());
+    if length <= TEXT_MAX || in_time {
         return found;
     }
     Flaw {

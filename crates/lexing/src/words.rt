@@ -36,11 +36,9 @@ pub fn word<'a>(fault: &Fault, catalogue: &'a [u8], query: &'a [u8]) -> &'a [u8]
     ensures value { WordAt (text_of (number fault.now.refusal) catalogue.now query.now) fault.now.detail result.now }
 {
     let text = text_of(fault.refusal.number(), catalogue, query);
-    let place = fault.detail as usize;
-    if place >= text.len() {
+    let place = usize::from(fault.detail);
+    let Some(rest) = text.get(place..) else {
         return &[];
-    }
-    let rest = &text[place..];
-    let length = word_length(rest);
-    &rest[0..length]
+    };
+    &rest[..word_length(rest)]
 }
