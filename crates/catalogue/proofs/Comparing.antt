@@ -1,15 +1,14 @@
 -- Comparing a catalogue's columns with a rack's, source by source.
-use Rattle.std.proofs.Common.{◌≡◌, ℕ, zero, suc, ◌+◌, ◌<◌, ◌≤◌, min, Bool, true, false, ◌&&◌, List, [], ◌∷◌, length, get_or, drop, Some, None, Option, sym, refl, ap, ◌∙◌, add-one, arith}
-use Rattle.std.proofs.lemmas.List.{drop_all}
-use Rattle.source.specs.declared.mark.Mark.{Mark}
+use Rattle.std.proofs.Common.{◌≡◌, ℕ, zero, suc, ◌+◌, ◌<◌, ◌≤◌, min, Bool, true, false, ◌&&◌, List, [], ◌∷◌, map, length, drop, Some, refl, ap, ◌∙◌, add-one, arith}
+use Rattle.std.specs.List.{list_all, enumerate_from}
+use Rattle.std.proofs.lemmas.List.{drop_all, length-map}
+use Rattle.bounded.specs.Held.{held}
 use Rattle.source.specs.Marks.{same_marks}
 use Rattle.source.specs.Meaning.{Meaning}
 use Rattle.source.specs.Racks.{marks_at}
-use Rattle.catalogue.specs.Plain.{PlainColumns, no_columns}
-use Rattle.catalogue.specs.Racks.{describes}
-
-none_there : {X : Type 0} (o : Option (List Mark)) (m : List Mark) → o ≡ None → o ≡ Some m → X
-none_there o m p q = let z : ◌≡◌ {A = ℕ} 0 1 = cc in absurd (omega arith)
+use Rattle.catalogue.specs.declared.columns.Entry.{Entry}
+use Rattle.catalogue.specs.Plain.{PlainColumns, entry_columns}
+use Rattle.catalogue.specs.Racks.{describes, has_marks}
 
 not_both : (b x : Bool) → false ≡ x → false ≡ (b && x)
 not_both true x e = e
@@ -29,49 +28,29 @@ uneven_told cs ms told t few ne = uneven cs ms (λ e. differ e)
     differ : length cs ≡ length ms → ⊥
     differ e = ne (omega arith)
 
--- what is left to compare at a source that both have
-one_source : (cs : List PlainColumns) (ms : List Meaning) (i : ℕ) (marks others : List Mark) → i < length cs →
-    marks ≡ (get_or cs i no_columns).marks → Some others ≡ marks_at ms i →
-    describes (drop i cs) (drop i ms) ≡ (same_marks marks others && describes (drop (i + 1) cs) (drop (i + 1) ms))
-one_source cs ms i marks others h e f = rw add-one (go cs ms i h e f)
-  where
-    go : (cs : List PlainColumns) (ms : List Meaning) (i : ℕ) → i < length cs → marks ≡ (get_or cs i no_columns).marks → Some others ≡ marks_at ms i →
-        describes (drop i cs) (drop i ms) ≡ (same_marks marks others && describes (drop (suc i) cs) (drop (suc i) ms))
-    go [] ms i h e f = absurd (omega arith)
-    go (c ∷ cs) [] i h e f = none_there _ others refl (sym f)
-    go (c ∷ cs) (m ∷ ms) zero h e f =
-        let g : m.marks ≡ others = cc in
-        ap (λ (x : List Mark). same_marks x m.marks && describes cs ms) (sym e) ∙ ap (λ (x : List Mark). same_marks marks x && describes cs ms) g
-    go (c ∷ cs) (m ∷ ms) (suc i) h e f = go cs ms i (omega arith) e f
+-- .. and the same number
+pub even_told : (cs : List PlainColumns) (ms : List Meaning) (told : ℕ) → told ≡ min (length ms) 255 → length cs ≤ 8 → told ≡ length cs → length cs ≡ length ms
+even_told cs ms told t few e = omega arith
 
--- the marks there are the same, or are not
-pub as_there : (cs : List PlainColumns) (ms : List Meaning) (i : ℕ) (marks others : List Mark) → i < length cs →
-    marks ≡ (get_or cs i no_columns).marks → Some others ≡ marks_at ms i → true ≡ same_marks marks others →
-    describes (drop i cs) (drop i ms) ≡ describes (drop (i + 1) cs) (drop (i + 1) ms)
-as_there cs ms i marks others h e f s = one_source cs ms i marks others h e f ∙ ap (λ (b : Bool). b && describes (drop (i + 1) cs) (drop (i + 1) ms)) (sym s)
+-- what stands in a rack at a number
+record There (ms : List Meaning) (i : ℕ) : Type 0 where
+  meaning : Meaning
+  next : drop i ms ≡ meaning ∷ drop (i + 1) ms
+  marks : marks_at ms i ≡ Some meaning.marks
 
-pub not_as_there : (cs : List PlainColumns) (ms : List Meaning) (i : ℕ) (marks others : List Mark) → i < length cs →
-    marks ≡ (get_or cs i no_columns).marks → Some others ≡ marks_at ms i → false ≡ same_marks marks others →
-    false ≡ describes (drop i cs) (drop i ms)
-not_as_there cs ms i marks others h e f s = sym (one_source cs ms i marks others h e f ∙ ap (λ (b : Bool). b && describes (drop (i + 1) cs) (drop (i + 1) ms)) (sym s))
+there : (ms : List Meaning) (i : ℕ) → i < length ms → There ms i
+there [] i h = absurd (omega arith)
+there (m ∷ ms) zero h = record { meaning = m; next = refl; marks = refl }
+there (m ∷ ms) (suc i) h = let t = there ms i (omega arith) in record { meaning = t.meaning; next = rw (add-one) (t.next ∙ rw (add-one) refl); marks = t.marks }
 
-none_dropped : (i : ℕ) → ◌≡◌ {A = List Meaning} (drop i []) []
-none_dropped zero = refl
-none_dropped (suc i) = refl
+abbrev pub compared : List Meaning → ℕ × Entry → Bool
+compared ms p = has_marks (marks_at ms p.0) (held p.1.columns.marks)
 
-left_over : (cs : List PlainColumns) (i : ℕ) → i < length cs → false ≡ describes (drop i cs) []
-left_over [] i h = absurd (omega arith)
-left_over (c ∷ cs) zero h = refl
-left_over (c ∷ cs) (suc i) h = left_over cs i (omega arith)
+all_from : (es : List Entry) (ms : List Meaning) (i : ℕ) → i + length es ≡ length ms → list_all (compared ms) (enumerate_from i es) ≡ describes (map entry_columns es) (drop i ms)
+all_from [] ms i h = rw (drop_all i ms (omega arith)) refl
+all_from (e ∷ es) ms i h =
+    let t = there ms i (omega arith) in
+    rw (t.next, t.marks) (ap (λ (b : Bool). same_marks (held e.columns.marks) t.meaning.marks && b) (all_from es ms (i + 1) (omega arith)))
 
--- a source that the rack has not
-pub no_source : (cs : List PlainColumns) (ms : List Meaning) (i : ℕ) → i < length cs → None ≡ marks_at ms i → false ≡ describes (drop i cs) (drop i ms)
-no_source [] ms i h f = absurd (omega arith)
-no_source (c ∷ cs) [] zero h f = refl
-no_source (c ∷ cs) [] (suc i) h f = rw (none_dropped (suc i)) (left_over (c ∷ cs) (suc i) h)
-no_source (c ∷ cs) (m ∷ ms) zero h f = none_there _ m.marks (sym f) refl
-no_source (c ∷ cs) (m ∷ ms) (suc i) h f = no_source cs ms i (omega arith) f
-
--- nothing is left to compare
-pub all_compared : (cs : List PlainColumns) (ms : List Meaning) (i : ℕ) → length cs ≤ i → length ms ≤ i → true ≡ describes (drop i cs) (drop i ms)
-all_compared cs ms i h k = rw (drop_all i cs h, drop_all i ms k) refl
+pub all_compared : (es : List Entry) (ms : List Meaning) → length (map entry_columns es) ≡ length ms → list_all (compared ms) (enumerate_from 0 es) ≡ describes (map entry_columns es) ms
+all_compared es ms h = all_from es ms 0 (omega (arith, length-map es entry_columns))
