@@ -74,6 +74,7 @@ impl Reader {
     }
 
     // The name of a source begins a line.
+    #[tactic(auto, using(crate::proofs::Taking::ninth, crate::proofs::Taking::twice, crate::proofs::Taking::was_some))]
     fn take_source(&self, token: &[u8]) -> Result<Stage, Refusal>
         ensures taken { (ls : Many Line) → Seen self.now (kinds_in ls) ls → Taken steps (At self.now) (lines ls) token.now result }
     {
