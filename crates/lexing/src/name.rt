@@ -109,6 +109,7 @@ pub fn position<T: Named>(list: &[T], name: &[u8]) -> Option<usize>
 
 // The number of a name in a list of names: its place, or the next one, at which it is then added.
 // There is none for a name of too many bytes, and for a new one where the limit is reached.
+#[tactic(auto, using(crate::proofs::Holding::found_below, crate::proofs::Holding::number_full, crate::proofs::Holding::number_crowded))]
 pub fn number_in(list: &mut Bounded<Name, 16>, token: &[u8], limit: usize) -> Option<u8>
     ensures value { Numbered (named list.old) (named list.new) token.now limit result }
 {
@@ -117,10 +118,7 @@ pub fn number_in(list: &mut Bounded<Name, 16>, token: &[u8], limit: usize) -> Op
         return Some(i as u8);
     }
     let count = list.len();
-    if count >= limit {
-        return None;
-    }
-    if !list.push(name) {
+    if count >= limit || !list.push(name) {
         return None;
     }
     Some(count as u8)

@@ -1,19 +1,10 @@
-use Rattle.std.proofs.Common.{◌<◌, sym, arith, rules, ltb-true}
+use Rattle.std.proofs.Common.{◌<◌, sym, arith, ltb-true}
 use Rattle.bounded.proofs.Holding.{length_held}
-use Rattle.lexing.proofs.Holding.{number_found, number_full, number_crowded, number_new, found_below}
+use Rattle.lexing.proofs.Holding.{number_found, number_new}
 use Rattle.lexing.proofs.name.number_in.Goals as goal
-
-pub overflow_cast-result : goal.overflow_cast-result
-overflow_cast-result c = let h = found_below c.args.list.now _ c.args.token.now c.as_slice.ensures.value _ c.in-Some.ensures.value in search rules
 
 pub returns-in-Some : goal.returns-in-Some
 returns-in-Some c = record { value = number_found c.args.list.now _ c.args.token.now c.args.limit c.as_slice.ensures.value _ c.in-Some.ensures.value c.in_ok-name.ensures.value.0 }
-
-pub returns-then-count-limit : goal.returns-then-count-limit
-returns-then-count-limit c = record { value = number_full c.args.list.now _ c.args.token.now c.args.limit c.as_slice.ensures.value c.len-count.result c.in_default.ensures.value c.len-count.ensures.value c.if-count-limit.true }
-
-pub returns-then-not-push : goal.returns-then-not-push
-returns-then-not-push c = record { value = number_crowded c.args.list.now _ c.args.token.now c.args.limit c.as_slice.ensures.value c.push.new.self c.in_ok-name.name c.in_default.ensures.value c.if-not-push.ensures.room c.if-not-push.ensures.items }
 
 pub returns : goal.returns
 returns c =
