@@ -1,93 +1,103 @@
 -- The table of bound variables: how it grows, and what it tells of a literal.
-use Rattle.std.proofs.Common.{◌≡◌, ℕ, ◌+◌, ◌<◌, Bool, true, false, ◌⊎◌, List, [], ◌∷◌, ◌++◌, length, get_or, take, set, replicate, Decides, sym, refl, ap, ◌∙◌, subst, inl, inr, arith}
+use Rattle.std.proofs.Common.{◌≡◌, ℕ, ◌<◌, Bool, true, false, ◌||◌, ◌⊎◌, List, [], ◌∷◌, length, get_or, ◌==◌, Decides, sym, refl, ap, subst, inl, inr, arith}
+use Rattle.std.specs.Bool.{MatchBool}
+use Rattle.std.specs.List.{list_any, zip, AllWithin, HoldsAt}
 use mathlib.Core.List.Memᴰ
 use mathlib.Core.List.{Memᴰ}
-use native.Mathlib.Decide.{ℕ_discrete}
-use Rattle.std.proofs.lemmas.List.{get_or-set_same, get_or-set_other, get_or-replicate}
+use native.Mathlib.Decide.{dec_lt}
+use Rattle.std.proofs.lemmas.List.{get_or_past}
+use Rattle.std.proofs.lemmas.Slice.Zip.{length-zip, get_or-zip}
 use Rattle.std.proofs.lemmas.Bool.{false≢true}
+use Rattle.std.proofs.lemmas.Bool.Decides.{Decides-at, Decides-eqb, Decides-like, Decides-or}
 use Rattle.source.specs.declared.mark.Mark.{Mark}
+use Rattle.source.specs.declared.mark.Mark.TheVariants.{Given, Free}
 use Rattle.query.specs.declared.term.Term.{Term}
 use Rattle.query.specs.declared.term.Term.TheVariants.{Constant, Variable}
-use Rattle.ordering.specs.Literals.{Literal, literal_at, Numbered, Proper}
+use Rattle.ordering.specs.Literals.{Literal, no_literal, literal_at, Names, Proper, WellFormed}
 use Rattle.ordering.specs.Orders.{Known, constant, variable, Ready}
-use Rattle.ordering.specs.Picking.{SetIn, AllSet, Binds, Tells}
-use Rattle.ordering.proofs.Members.{member_at, member_take_more, take_more_last, take_more_others, member_push, push_last, push_others}
+use Rattle.ordering.specs.Picking.{SetIn, AllSet, Tells, is_variable_of, is_bound}
+use Rattle.ordering.proofs.Members.{member_at}
 
-pub number_below : (terms : List Term) (i v : ℕ) → Numbered terms → i < length terms → get_or terms i (Constant 0) ≡ Variable v → v < 16
-number_below terms i v n h e = n v (Memᴰ.cast (sym e) (member_at terms i (Constant 0) h))
+same_term : (v : ℕ) (t : Term) → Decides (is_variable_of v t) (Variable v ≡ t)
+same_term v (Constant value) = (λ e. absurd (false≢true e), λ e. cc)
+same_term v (Variable u) = Decides-like (v == u) (ap Variable) (λ e. cc) (Decides-eqb v u)
 
-same_variable : (u v : ℕ) → ◌≡◌ {A = Term} (Variable u) (Variable v) → u ≡ v
-same_variable u v e = cc
+-- the variable stands among the terms
+among_decides : (v : ℕ) (terms : List Term) → Decides (list_any (is_variable_of v) terms) (Memᴰ (Variable v) terms)
+among_decides v [] = (λ e. absurd (false≢true e), λ m. absurd (Memᴰ.not-nil m))
+among_decides v (t ∷ ts) =
+    Decides-like (is_variable_of v t || list_any (is_variable_of v) ts) (λ s. elim s [ inl e ↦ Memᴰ.head e | inr m ↦ Memᴰ.tail m ]) Memᴰ.cases_cons
+    (Decides-or (is_variable_of v t) (list_any (is_variable_of v) ts) (same_term v t) (among_decides v ts))
 
-module _ (terms : List Term) (bound bound' : List Bool) (i : ℕ) (inside : i < length terms) where
-  pub binds_constant : (value : ℕ) → get_or terms i (Constant 0) ≡ Constant value → Binds (take i terms) bound bound' → Binds (take (i + 1) terms) bound bound'
-  binds_constant value e b u h = (
-    λ t. elim ((b u h).0 t) [ inl old ↦ inl old | inr m ↦ inr (take_more_others terms i inside m) ],
-    λ s. elim s [
-      | inl old ↦ (b u h).1 (inl old)
-      | inr m ↦ elim (member_take_more terms i (Constant 0) inside m) [ inl a ↦ (b u h).1 (inr a) | inr f ↦ let z : ◌≡◌ {A = ℕ} 0 1 = cc in absurd (omega (arith, z)) ]
-    ],
-  )
+-- marks and terms that are looked at side by side, up to the last of either
+pub all_set : (bound : List Bool) (marks : List Mark) (terms : List Term) (r : Bool) →
+    MatchBool r (AllWithin (λ p. p.0 ≡ Given → SetIn bound p.1) (zip marks terms) 0 (length (zip marks terms)))
+    ((k : ℕ) × (k < length (zip marks terms)) × HoldsAt (λ p. (p.0 ≡ Given) × (SetIn bound p.1 → ⊥)) (zip marks terms) k) →
+    Decides r (AllSet bound marks terms)
+all_set bound marks terms true all = (λ e column h given. go column h given (dec_lt column (length terms)), λ s. refl)
+  where
+    go : (column : ℕ) → column < length marks → get_or marks column Free ≡ Given → Dec (column < length terms) → SetIn bound (get_or terms column (Constant 0))
+    go column h given (yes l) =
+        let both = get_or-zip marks terms column (Free, Constant 0) h l in
+        let inside : column < length (zip marks terms) = omega (arith, length-zip marks terms) in
+        rw both at (all column (Free, Constant 0) (omega arith) inside) given
+    go column h given (no n) = rw (get_or_past terms column (Constant 0) (omega arith)) tt
+all_set bound marks terms false (k, inside, unset) = (λ e. absurd (false≢true e), λ all. absurd (not_all all))
+  where
+    not_all : AllSet bound marks terms → ⊥
+    not_all all =
+        let h : k < length marks = omega (arith, length-zip marks terms) in
+        let l : k < length terms = omega (arith, length-zip marks terms) in
+        let here = rw (get_or-zip marks terms k (Free, Constant 0) h l) at (unset (Free, Constant 0)) in
+        here.1 (all k h here.0)
 
-  pub binds_variable : (v : ℕ) → get_or terms i (Constant 0) ≡ Variable v → v < length bound' → Binds (take i terms) bound bound' → Binds (take (i + 1) terms) bound (set bound' v true)
-  binds_variable v e l b u h = go (ℕ_discrete u v)
-    where
-      go : Dec (u ≡ v) → Decides (get_or (set bound' v true) u false) ((get_or bound u false ≡ true) ⊎ Memᴰ (Variable u) (take (i + 1) terms))
-      go (yes f) = (
-        λ t. inr (Memᴰ.cast (ap Variable f ∙ sym e) (take_more_last terms i (Constant 0) inside)),
-        λ s. ap (λ w. get_or (set bound' v true) w false) f ∙ get_or-set_same bound' v true false l,
-      )
-      go (no n) =
-          let other = get_or-set_other bound' v u true false n in (
-            λ t. elim ((b u h).0 (sym other ∙ t)) [ inl old ↦ inl old | inr m ↦ inr (take_more_others terms i inside m) ],
-            λ s. other ∙ elim s [
-              | inl old ↦ (b u h).1 (inl old)
-              | inr m ↦ elim (member_take_more terms i (Constant 0) inside m) [ inl a ↦ (b u h).1 (inr a) | inr f ↦ absurd (n (same_variable u v (f ∙ e))) ]
-            ],
-          )
+module _ (literals : List Literal) where
+  known_first : {place v : ℕ} {earlier : List ℕ} → Names (literal_at literals place) v ⊎ Known literals earlier (Variable v) → Known literals (place ∷ earlier) (Variable v)
+  known_first {place} {v} (inl n) = variable v place (Memᴰ.head refl) n
+  known_first (inr (variable v p m n)) = variable v p (Memᴰ.tail m) n
 
-pub binds_nothing : (bound : List Bool) → Binds [] bound bound
-binds_nothing bound u h = (λ t. inl t, λ s. elim s [ inl old ↦ old | inr m ↦ absurd (Memᴰ.not-nil m) ])
+  known_cases : {place v : ℕ} {earlier : List ℕ} → Known literals (place ∷ earlier) (Variable v) → Names (literal_at literals place) v ⊎ Known literals earlier (Variable v)
+  known_cases {place} {v} {earlier} (variable w p m n) = elim (Memᴰ.cases_cons m) [ inl e ↦ inl (subst (λ q. Names (literal_at literals q) w) e n) | inr t ↦ inr (variable w p t n) ]
 
-module _ {literals : List Literal} where
-  pub tells_nothing : Tells literals [] (replicate 16 false)
-  tells_nothing v h = (λ t. absurd (false≢true (sym (get_or-replicate 16 v false false h) ∙ t)), λ k. absurd (none k))
+  -- the variable stands in a literal at one of the places
+  bound_decides : (earlier : List ℕ) (v : ℕ) → Decides (is_bound literals earlier v) (Known literals earlier (Variable v))
+  bound_decides [] v = (λ e. absurd (false≢true e), λ k. absurd (none k))
     where
       none : Known literals [] (Variable v) → ⊥
       none (variable v place m n) = Memᴰ.not-nil m
-
-  -- once a literal is bound, the table tells of its place too
-  pub tells_more : (taken : List ℕ) (place : ℕ) (bound bound' : List Bool) → Tells literals taken bound → Binds (literal_at literals place).terms bound bound' → Tells literals (taken ++ place ∷ []) bound'
-  tells_more taken place bound bound' t b v h = (λ s. to ((b v h).0 s), λ k. (b v h).1 (from k))
-    where
-      later : Known literals taken (Variable v) → Known literals (taken ++ place ∷ []) (Variable v)
-      later (variable v p m n) = variable v p (push_others place m) n
-
-      to : (get_or bound v false ≡ true) ⊎ Memᴰ (Variable v) (literal_at literals place).terms → Known literals (taken ++ place ∷ []) (Variable v)
-      to (inl old) = later ((t v h).0 old)
-      to (inr m) = variable v place (push_last taken place) m
-
-      from : Known literals (taken ++ place ∷ []) (Variable v) → (get_or bound v false ≡ true) ⊎ Memᴰ (Variable v) (literal_at literals place).terms
-      from (variable v p m n) = elim (member_push taken place m) [ inl a ↦ inl ((t v h).1 (variable v p a n)) | inr e ↦ inr (subst (λ q. Memᴰ (Variable v) (literal_at literals q).terms) e n) ]
+  bound_decides (place ∷ earlier) v =
+      let here = list_any (is_variable_of v) (literal_at literals place).terms in
+      Decides-like (here || is_bound literals earlier v) known_first known_cases
+      (Decides-or here (is_bound literals earlier v) (among_decides v (literal_at literals place).terms) (bound_decides earlier v))
 
   -- a term of a numbered variable, or a constant, is set just if it is known
-  known_from_set : (taken : List ℕ) (bound : List Bool) (t : Term) → ((v : ℕ) → t ≡ Variable v → v < 16) → Tells literals taken bound → SetIn bound t → Known literals taken t
-  known_from_set taken bound (Constant value) n tells s = constant value
-  known_from_set taken bound (Variable v) n tells s = (tells v (n v refl)).0 s
+  set_decides : (taken : List ℕ) (bound : List Bool) (t : Term) → ((v : ℕ) → t ≡ Variable v → v < 16) → Tells literals taken bound → (SetIn bound t → Known literals taken t) × (Known literals taken t → SetIn bound t)
+  set_decides taken bound (Constant value) n tells = (λ s. constant value, λ k. tt)
+  set_decides taken bound (Variable v) n tells = Decides-at (get_or bound v false) (is_bound literals taken v) (tells v (n v refl)) (bound_decides taken v)
 
-  set_from_known : (taken : List ℕ) (bound : List Bool) (t : Term) → ((v : ℕ) → t ≡ Variable v → v < 16) → Tells literals taken bound → Known literals taken t → SetIn bound t
-  set_from_known taken bound (Constant value) n tells k = tt
-  set_from_known taken bound (Variable v) n tells k = (tells v (n v refl)).1 k
+  -- each literal is proper, and past the last one there are no columns
+  proper_at : WellFormed literals → (place : ℕ) → Proper (literal_at literals place)
+  proper_at w place = go (dec_lt place (length literals))
+    where
+      go : Dec (place < length literals) → Proper (literal_at literals place)
+      go (yes h) = w.proper place h
+      go (no n) = rw (get_or_past literals place no_literal (omega arith)) (record { paired = refl; numbered = λ v m. absurd (Memᴰ.not-nil m) })
 
   -- what the table says of a literal's columns is whether the literal is ready
-  pub ready_decided : (taken : List ℕ) (bound : List Bool) (literal : Literal) {marks : List Mark} {terms : List Term} (r : Bool) → Proper literal → Tells literals taken bound → marks ≡ literal.marks → terms ≡ literal.terms → Decides r (AllSet bound marks terms) → Decides r (Ready literals taken literal)
-  ready_decided taken bound literal {marks} {terms} r p tells m t d = (
-    λ e column h g. known_from_set taken bound (get_or literal.terms column (Constant 0)) (number column h) tells (all.0 e column h g),
-    λ ready. all.1 (λ column h g. set_from_known taken bound (get_or literal.terms column (Constant 0)) (number column h) tells (ready column h g)),
-  )
+  pub ready_decided : WellFormed literals → (taken : List ℕ) (bound : List Bool) (place : ℕ) (marks : List Mark) (terms : List Term) (r : Bool) → Tells literals taken bound → marks ≡ (literal_at literals place).marks → terms ≡ (literal_at literals place).terms → Decides r (AllSet bound marks terms) → Decides r (Ready literals taken (literal_at literals place))
+  ready_decided w taken bound place marks terms r tells m t d =
+      Decides-like r (λ all column h g. (set column h).0 (all column h g)) (λ ready column h g. (set column h).1 (ready column h g)) all
     where
+      literal : Literal
+      literal = literal_at literals place
+
       all : Decides r (AllSet bound literal.marks literal.terms)
       all = subst (λ z. Decides r (AllSet bound z literal.terms)) m (subst (λ z. Decides r (AllSet bound marks z)) t d)
 
-      number : (column : ℕ) → column < length literal.marks → (v : ℕ) → get_or literal.terms column (Constant 0) ≡ Variable v → v < 16
-      number column h v e = number_below literal.terms column v p.numbered (omega (arith, p.paired)) e
+      term : ℕ → Term
+      term column = get_or literal.terms column (Constant 0)
+
+      set : (column : ℕ) → column < length literal.marks → (SetIn bound (term column) → Known literals taken (term column)) × (Known literals taken (term column) → SetIn bound (term column))
+      set column h =
+          let p = proper_at w place in
+          set_decides taken bound (term column) (λ v e. p.numbered v (Memᴰ.cast (sym e) (member_at literal.terms column (Constant 0) (omega (arith, p.paired))))) tells

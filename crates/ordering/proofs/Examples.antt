@@ -41,7 +41,7 @@ batch_unknown : Known notices_of_pack (2 ∷ []) (Variable 1) → ⊥
 batch_unknown (variable v place m n) = no_batch_in_pack (subst (λ p. Names (literal_at notices_of_pack p) 1) (Memᴰ.eq_of_singleton m) n)
 
 pack_first : Picks notices_of_pack [] 2
-pack_first = record { next = record { within = omega arith; fresh = Memᴰ.not-nil; ready = pack_ready (Variable 2) (constant 1007) }; lowest = lower }
+pack_first = record { within = omega arith; next = record { fresh = Memᴰ.not-nil; ready = pack_ready (Variable 2) (constant 1007) }; lowest = lower }
   where
     lower : (place : ℕ) → place < 2 → Next notices_of_pack [] place → ⊥
     lower zero h n = unknown_at_first (n.ready 0 (omega arith) refl)
@@ -50,8 +50,8 @@ pack_first = record { next = record { within = omega arith; fresh = Memᴰ.not-n
 
 batch_second : Picks notices_of_pack (2 ∷ []) 1
 batch_second = record {
+  within = omega arith;
   next = record {
-    within = omega arith;
     fresh = λ m. let e = Memᴰ.eq_of_singleton m in omega arith;
     ready = batch_ready (Variable 1) (Variable 3) (variable 2 2 (Memᴰ.head refl) (Memᴰ.tail (Memᴰ.head refl)));
   };
@@ -64,8 +64,8 @@ batch_second = record {
 
 recall_third : Picks notices_of_pack (2 ∷ 1 ∷ []) 0
 recall_third = record {
+  within = omega arith;
   next = record {
-    within = omega arith;
     fresh = λ m. elim (Memᴰ.cases_cons m) [ inl e ↦ omega arith | inr t ↦ let e = Memᴰ.eq_of_singleton t in omega arith ];
     ready = pack_ready (Variable 0) (variable 1 1 (Memᴰ.tail (Memᴰ.head refl)) (Memᴰ.tail (Memᴰ.head refl)));
   };
@@ -92,5 +92,5 @@ modules_unordered =
     picked_unordered {order = []} (λ i h. absurd (not-suc-le-zero h)) stuck (record { within = omega arith; fresh = Memᴰ.not-nil; lowest = λ lower h. absurd (not-suc-le-zero h) })
   where
     stuck : Stuck modules_of_any_pack []
-    stuck zero n = unknown_at_first (n.ready 0 (omega arith) refl)
-    stuck (suc place) n = not-suc-le-zero (le_of_suc-le-suc n.within)
+    stuck zero h n = unknown_at_first (n.ready 0 (omega arith) refl)
+    stuck (suc place) h n = not-suc-le-zero (le_of_suc-le-suc h)

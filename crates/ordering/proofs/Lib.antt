@@ -2,4 +2,5 @@ pub mod Members
 pub mod Counting
 pub mod Theorems
 pub mod Binding
+pub mod Lowest
 pub mod Examples

@@ -32,18 +32,6 @@ module _ {X : Type 0} where
   pub member_push : {x : X} (xs : List X) (y : X) → Memᴰ x (xs ++ y ∷ []) → Memᴰ x xs ⊎ (x ≡ y)
   member_push xs y m = elim (Memᴰ.append_cases xs m) [ inl a ↦ inl a | inr b ↦ inr (Memᴰ.eq_of_singleton b) ]
 
-  pub push_last : (xs : List X) (y : X) → Memᴰ y (xs ++ y ∷ [])
-  push_last xs y = Memᴰ.append_right xs (Memᴰ.head refl)
-
-  pub push_others : {x : X} {xs : List X} (y : X) → Memᴰ x xs → Memᴰ x (xs ++ y ∷ [])
-  push_others y m = Memᴰ.append_left (y ∷ []) m
-
   -- one element more of a front
   pub member_take_more : {x : X} (xs : List X) (i : ℕ) (d : X) → i < length xs → Memᴰ x (take (i + 1) xs) → Memᴰ x (take i xs) ⊎ (x ≡ get_or xs i d)
   member_take_more xs i d h m = member_push (take i xs) (get_or xs i d) (rw (take_more xs i d h) at m)
-
-  pub take_more_last : (xs : List X) (i : ℕ) (d : X) → i < length xs → Memᴰ (get_or xs i d) (take (i + 1) xs)
-  take_more_last xs i d h = rw (take_more xs i d h) (push_last (take i xs) (get_or xs i d))
-
-  pub take_more_others : {x : X} (xs : List X) (i : ℕ) → i < length xs → Memᴰ x (take i xs) → Memᴰ x (take (i + 1) xs)
-  take_more_others {x} xs i h m = rw (take_more xs i x h) (push_others (get_or xs i x) m)

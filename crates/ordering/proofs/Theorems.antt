@@ -59,7 +59,7 @@ module _ {literals : List Literal} where
             | inr e ↦
                 Memᴰ.cast e (elim (member? p taken) [
                   | yes t ↦ t
-                  | no n ↦ absurd (stuck p (record { within = s.within p (member_at order i 0 inside); fresh = n; ready = λ column l g. known_later front (x i inside column l g) }))
+                  | no n ↦ absurd (stuck p (s.within p (member_at order i 0 inside)) (record { fresh = n; ready = λ column l g. known_later front (x i inside column l g) }))
                 ])
           ]
 
@@ -94,7 +94,7 @@ module _ {literals : List Literal} where
 
       go : Selection (length literals) (take i order) → Selection (length literals) (take (suc i) order)
       go s = rw more (record {
-        within = λ place m. elim (member_push (take i order) (get_or order i 0) m) [ inl a ↦ s.within place a | inr e ↦ rw e (p i inside).next.within ];
+        within = λ place m. elim (member_push (take i order) (get_or order i 0) m) [ inl a ↦ s.within place a | inr e ↦ rw e (p i inside).within ];
         distinct = distinct_push s.distinct (p i inside).next.fresh;
       })
 
@@ -124,7 +124,6 @@ module _ {literals : List Literal} where
           go (no n) = omega arith
           go (yes l) =
               absurd ((p i h).lowest (get_or other i 0) l (record {
-                within = r.selection.within (get_or other i 0) (member_at other i 0 k);
                 fresh = λ m. distinct_front r.selection.distinct i k (subst (Memᴰ (get_or other i 0)) e m);
                 ready = subst (λ front. Ready literals front (literal_at literals (get_or other i 0))) (sym e) (x i k);
               }))

@@ -1,12 +1,11 @@
 // Executable orders of a conjunctive query's literals.
 #![tactic(auto)]
 
+mod bound_variables;
 pub mod conjunction;
 mod picking;
 pub mod places;
 pub mod queries;
-mod readiness;
-mod taking;
 pub mod worked;
 
 pub use conjunction::Conjunction;

@@ -1,12 +1,10 @@
-use Rattle.std.proofs.Common.{◌-◌, length}
+use Rattle.std.proofs.Common.{◌≡◌, ◌-◌, length}
 use Rattle.ordering.specs.Listed.{places_of}
-use Rattle.ordering.specs.Picking.{Tells}
 use Rattle.ordering.proofs.Theorems.{Picked}
 use Rattle.ordering.proofs.picking.order.Given as goal
 
 abbrev pub invariant-loop-place : goal.invariant-loop-place
-invariant-loop-place g l =
-    Picked (g.Q.Conjunction.literals l.query) (places_of l.order) × Tells (g.Q.Conjunction.literals l.query) (places_of l.order) l.bound
+invariant-loop-place g l = (l.search.query.now ≡ l.query) × Picked (g.Q.Conjunction.literals l.query) (places_of l.search.taken)
 
 abbrev pub decreases-loop-place : goal.decreases-loop-place
-decreases-loop-place g l = length (g.Q.Conjunction.literals l.query) - length (places_of l.order)
+decreases-loop-place g l = length (g.Q.Conjunction.literals l.query) - length (places_of l.search.taken)
