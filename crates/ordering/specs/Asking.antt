@@ -1,8 +1,8 @@
 -- The literals of a query as a conjunction.
-use Rattle.std.specs.Prelude.{◌≡◌, ℕ, zero, suc, ◌<◌, ◌≤◌, true, ◌&&◌, List, [], ◌∷◌, map, length, get_or, ◌==◌, nat_lt, slice_index_or}
+use Rattle.std.specs.Prelude.{◌≡◌, ℕ, zero, suc, ◌<◌, ◌≤◌, true, ◌&&◌, List, [], ◌∷◌, map, length, get_or, ◌==◌, nat_lt}
 use Rattle.std.proofs.Common.{sym, ◌∙◌, subst, arith, length-take}
 use mathlib.Core.List.{Memᴰ}
-use Rattle.std.proofs.lemmas.List.{get_or-map, get_or_past, length-map}
+use Rattle.std.proofs.lemmas.List.{length-map}
 use Rattle.std.proofs.lemmas.Bool.{and_parts, eqb-true, ltb-true}
 use Rattle.bounded.specs.Held.{held}
 use Rattle.catalogue.specs.Plain.{PlainColumns, no_columns, shaped, all_shaped}
@@ -11,14 +11,8 @@ use Rattle.query.specs.declared.term.Term as record_term
 use Rattle.query.specs.declared.term.Literal as record_literal
 use Rattle.query.specs.declared.record.Query.{Query}
 use Rattle.query.specs.Plain.{plain_term, plain_literal, below, all_below, fitting, all_fitting, all_occur}
-use Rattle.ordering.specs.Literals.{no_literal, literal_at, Numbered, Proper, WellFormed}
+use Rattle.ordering.specs.Literals.{literal_at, Numbered, Proper, WellFormed}
 use Rattle.ordering.specs.Asked.{asked, asked_literals}
-
-pub literal_past : (columns : List PlainColumns) (ls : List record_literal.Literal) (place : ℕ) → length ls ≤ place → literal_at (map (asked columns) ls) place ≡ no_literal
-literal_past columns ls place h = get_or_past (map (asked columns) ls) place no_literal (omega (arith, length-map ls (asked columns)))
-
-pub literal_here : (columns : List PlainColumns) (ls : List record_literal.Literal) (place : ℕ) (d : record_literal.Literal) → place < length ls → literal_at (map (asked columns) ls) place ≡ asked columns (slice_index_or ls place d)
-literal_here columns ls place d h = get_or-map (asked columns) ls place d no_literal h
 
 -- variables stand below the count
 numbered : (count : ℕ) (terms : List record_term.Term) → count ≤ 16 → all_below count (map plain_term terms) ≡ true → Numbered terms

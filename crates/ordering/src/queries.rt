@@ -16,18 +16,14 @@ impl Conjunction for Query {
     }
 
     fn marks(&self, place: usize) -> &[Mark] {
-        let literals = self.literals();
-        if place >= literals.len() {
-            return &[];
-        }
-        self.catalogue().marks(literals[place].source() as usize)
+        self.literals().get(place).map_or(&[], |literal| {
+            self.catalogue().marks(usize::from(literal.source()))
+        })
     }
 
     fn terms(&self, place: usize) -> &[Term] {
-        let literals = self.literals();
-        if place >= literals.len() {
-            return &[];
-        }
-        literals[place].terms()
+        self.literals()
+            .get(place)
+            .map_or(&[], |literal| literal.terms())
     }
 }
