@@ -87,7 +87,6 @@ commas_length (t ∷ ts) = let z = commas_length ts in omega arith
 pub record Absent (cat : Described) (text : List ℕ) (h : Atom) (ls : List Atom) (i : ℕ) : Type 0 where
   pub place : ℕ
   pub missing : Missing cat text h ls place
-  pub within : 2 * i + 2 < length (tokens_of text)
   pub there : get_or (places (tokens_of text)) (2 * i + 2) 0 ≡ place
 
 pub absent : (cat : Described) (text : List ℕ) (h : Atom) (before : List Atom) (last : Atom) (ls : List Atom) → Accepted (queries cat) text (stopped (h ∷ before) last) →
@@ -111,7 +110,6 @@ absent cat text h before last ls acc i inside gone others =
         nowhere = ap (λ (t : Token). among t (items_in ls)) s.is ∙ gone;
         at_place = refl;
       };
-      within = let y = s.within in omega arith;
       there = ap (λ (n : ℕ). get_or (places (tokens_of text)) n 0) (sym z) ∙ s.at;
     }
 
@@ -172,11 +170,11 @@ module _ (cat : Described) (text : List ℕ) (r : Reader) (h : Atom) (ls : List 
     pub is_accepted : QueryAccepted cat text h ms
     is_accepted = record { written = is_written; complete = all_there }
 
-  pub is_missing : (i place : ℕ) → FirstMissing (held r.head) r.kinds.cells (Some i) → (2 * i + 2 < length (tokens_of text) → place ≡ get_or (places (tokens_of text)) (2 * i + 2) 0) → QueryRefused cat text HeadVariableMissing place
+  pub is_missing : (i place : ℕ) → FirstMissing (held r.head) r.kinds.cells (Some i) → place ≡ get_or (places (tokens_of text)) (2 * i + 2) 0 → QueryRefused cat text HeadVariableMissing place
   is_missing i place f g =
       let w : i < length (items h) = (let z = head_length in omega (arith, f.0)) in
       let b = absent cat text h ls a ms acc i w (sym (kind_at i w) ∙ f.1) (λ k q. sym (kind_at k (omega arith)) ∙ f.2 k q) in
-      inr (h, ms, is_written, subst (Missing cat text h ms) (sym (g b.within ∙ b.there)) b.missing, refl)
+      inr (h, ms, is_written, subst (Missing cat text h ms) (sym (g ∙ b.there)) b.missing, refl)
 
 -- the three ways out of a text that was gone through
 module _ (c : Catalogue) (text : List ℕ) (r : Reader) (gone : GoneThrough (described c) text (Ok r)) where
@@ -206,7 +204,7 @@ module _ (c : Catalogue) (text : List ℕ) (r : Reader) (gone : GoneThrough (des
           tied = subst (λ (us : List Atom). Tied cat r (stopped us gone.1)) z.2 gone.3;
         }
 
-    pub missing_so : (i place : ℕ) → FirstMissing (held r.head) r.kinds.cells (Some i) → (2 * i + 2 < length (tokens_of text) → place ≡ get_or (places (tokens_of text)) (2 * i + 2) 0) → QueryRefused cat text HeadVariableMissing place
+    pub missing_so : (i place : ℕ) → FirstMissing (held r.head) r.kinds.cells (Some i) → place ≡ get_or (places (tokens_of text)) (2 * i + 2) 0 → QueryRefused cat text HeadVariableMissing place
     missing_so i place f g = let w = whole_query in is_missing cat text r w.h w.ls gone.1 w.acc w.tied i place f g
 
     pub sound_so : FirstMissing (held r.head) r.kinds.cells None → sound cat.columns r.variables.used (held r.head) (map plain_literal (held r.literals)) ≡ true

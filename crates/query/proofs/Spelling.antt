@@ -1,45 +1,20 @@
 -- Variables and constants, byte by byte.
-use Rattle.std.proofs.Common.{◌≡◌, ℕ, suc, ◌+◌, ◌-◌, ◌*◌, ◌<◌, ◌≤◌, Bool, true, false, cond, not, ◌&&◌, ◌||◌, eqb, leb, List, [], ◌∷◌, length, get_or, drop, sym, refl, ap, ◌∙◌, arith, ne_eqb, leb-true}
-use Rattle.std.proofs.lemmas.List.{drop_more, drop_all}
+use Rattle.std.proofs.Common.{◌≡◌, ℕ, ◌+◌, ◌-◌, ◌*◌, ◌<◌, ◌≤◌, Bool, true, false, cond, not, ◌&&◌, ◌||◌, eqb, leb, List, [], ◌∷◌, length, get_or, drop, sym, refl, ap, ◌∙◌, arith, leb-true}
+use Rattle.std.proofs.lemmas.List.{drop_more}
 use Rattle.lexing.specs.declared.class.Class.{Class}
 use Rattle.lexing.specs.declared.class.Class.TheVariants.{Lower, Upper, Digit, Blank, Punctuation, Other}
 use Rattle.lexing.specs.Classes.{class, within, punctuates, is_upper, is_digit, upper, lettered, digit}
 use Rattle.lexing.specs.Tokens.{Token}
-use Rattle.lexing.specs.Names.{all}
-use Rattle.lexing.proofs.Bools.{clash, and_0, and_1}
+use Rattle.lexing.specs.declared.name.Alphabet.TheVariants as alphabet
+use Rattle.lexing.specs.Names.{all, is_identifier}
+use Rattle.lexing.proofs.Bools.{clash, and_0}
 use Rattle.query.specs.Terms.{is_variable, is_constant, empty, spelled, value}
 
-pub no_variable : (t : Token) → length t ≡ 0 → false ≡ is_variable t
+-- a variable is an upper-case letter with letters and digits behind it
+pub variable_identifier : (t : Token) → is_identifier alphabet.Upper alphabet.Words t ≡ is_variable t
 unfolding is_variable
-no_variable [] h = refl
-no_variable (x ∷ t) h = absurd (omega arith)
-
-pub variable_tests : (t : Token) → (length t ≡ 0 → ⊥) → is_variable t ≡ (upper (get_or t 0 0) && all lettered (drop 1 t))
-unfolding is_variable
-variable_tests [] h = absurd (h refl)
-variable_tests (x ∷ t) h = refl
-
-pub not_upper : (k : Class) → (k ≡ Upper → ⊥) → is_upper k ≡ false
-not_upper Lower h = refl
-not_upper Upper h = absurd (h refl)
-not_upper Digit h = refl
-not_upper Blank h = refl
-not_upper Punctuation h = refl
-not_upper Other h = refl
-
-pub no_constant : (t : Token) → length t ≡ 0 → false ≡ is_constant t
-unfolding is_constant
-no_constant [] h = refl
-no_constant (x ∷ t) h = absurd (omega arith)
-
-one_left : (xs : List ℕ) → empty xs ≡ eqb (suc (length xs)) 1
-one_left [] = refl
-one_left (x ∷ xs) = sym (ne_eqb (suc (suc (length xs))) 1 (λ z. omega arith))
-
-pub constant_tests : (t : Token) → (length t ≡ 0 → ⊥) → is_constant t ≡ (all digit t && (not (eqb (get_or t 0 0) 48) || eqb (length t) 1))
-unfolding is_constant
-constant_tests [] h = absurd (h refl)
-constant_tests (x ∷ t) h = ap (λ (b : Bool). (digit x && all digit t) && (not (eqb x 48) || b)) (one_left t)
+variable_identifier [] = refl
+variable_identifier (x ∷ t) = refl
 
 pub constant_digits : (t : Token) → is_constant t ≡ true → all digit t ≡ true
 unfolding is_constant
@@ -90,14 +65,8 @@ module _ (t : Token) (i sum : ℕ) (h : i < length t) (so_far : value t ≡ spel
   pub this_digit : (48 ≤ get_or t i 0) × (get_or t i 0 ≤ 57)
   this_digit = digit_bounds (get_or t i 0) (and_0 (digit (get_or t i 0)) (all digit (drop (i + 1) t)) (sym parts ∙ digits))
 
-  pub other_digits : all digit (drop (i + 1) t) ≡ true
-  other_digits = and_1 (digit (get_or t i 0)) (all digit (drop (i + 1) t)) (sym parts ∙ digits)
-
   pub one_digit_more : value t ≡ spelled (10 * sum + (get_or t i 0 - 48)) (drop (i + 1) t)
   one_digit_more = so_far ∙ ap (spelled sum) (drop_more t i 0 h)
 
   pub too_large : 4294967295 < 10 * sum + (get_or t i 0 - 48) → 4294967295 < value t
   too_large k = let z = spelled_grows (10 * sum + (get_or t i 0 - 48)) (drop (i + 1) t) in let y = one_digit_more in omega arith
-
-pub all_spelled : (t : Token) (i sum : ℕ) → length t ≤ i → value t ≡ spelled sum (drop i t) → sum ≡ value t
-all_spelled t i sum h e = sym (e ∙ ap (spelled sum) (drop_all i t h))

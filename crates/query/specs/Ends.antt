@@ -1,5 +1,5 @@
 -- What the reader's last steps give.
-use Rattle.std.specs.Prelude.{◌≡◌, ℕ, ◌<◌, true, false, List, [], ◌∷◌, length, is_some, Some, None, Option, slice_index, slice_index_or}
+use Rattle.std.specs.Prelude.{◌≡◌, ℕ, ◌<◌, true, false, List, map, length, is_some, Some, None, Option, slice_index, slice_index_or}
 use Rattle.lexing.specs.Tokens.{Placed, tokens, placed, sieved, is_blank_token}
 
 -- the variable at this place of the head has a kind
@@ -13,8 +13,7 @@ FirstMissing head cells (Some i) = (i < length head) × (is_some (slice_index_or
 
 -- the places of tokens
 abbrev pub places : List Placed → List ℕ
-places [] = []
-places (t ∷ ts) = t.place ∷ places ts
+places ts = map (λ t. t.place) ts
 
 -- the tokens of a query text: those that are not blank
 abbrev pub tokens_of : List ℕ → List Placed

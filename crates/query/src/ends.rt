@@ -6,7 +6,7 @@ ghost use Rattle.query.specs.Ends.{FirstMissing, places, tokens_of};
 use crate::record::Query;
 use crate::state::Reader;
 use catalogue::Catalogue;
-use lexing::{is_blank, token_end};
+use lexing::{Tokens, is_blank};
 
 impl Reader {
     // The first variable of the head that stands in no literal, by its place in the head.
@@ -14,32 +14,19 @@ impl Reader {
         ensures value { FirstMissing (held self.now.head) self.now.kinds.cells result }
     {
         let head = self.head.as_slice();
-        for i in 0..head.len() {
-            if let None = self.kinds.get(head[i]) {
-                return Some(i);
-            }
-        }
-        None
+        head.iter()
+            .position(|number| self.kinds.get(*number).is_none())
     }
 }
 
-// The place of a token of a query text, by its number among those that are not blank.
+// The place of a token of a query text, by its number among those that are not blank; 0 where there
+// are not so many.
 pub(crate) fn place_of_token(text: &[u8], number: usize) -> usize
-    ensures value { number < length (tokens_of text.now) → result ≡ slice_index (places (tokens_of text.now)) number }
+    ensures value { result ≡ slice_index (places (tokens_of text.now)) number }
 {
-    let mut left = number;
-    let mut place = 0;
-    while place < text.len() {
-        let end = token_end(text, place);
-        if is_blank(&text[place..end]) {
-            place = end;
-            continue;
-        }
-        if left == 0 {
-            return place;
-        }
-        left -= 1;
-        place = end;
-    }
-    place
+    Tokens::new(text)
+        .filter(|token| !is_blank(token.bytes))
+        .map(|token| token.place)
+        .nth(number)
+        .unwrap_or(0)
 }

@@ -21,11 +21,7 @@ impl Kinds {
     pub(crate) fn get(&self, variable: u8) -> Option<u8>
         ensures value { result ≡ slice_index_or self.now.cells variable None }
     {
-        let i = variable as usize;
-        if i >= 16 {
-            return None;
-        }
-        self.cells[i]
+        self.cells.get(usize::from(variable)).copied().flatten()
     }
 
     // Notes that a variable stands in a column of a kind; says whether it has no other kind.
@@ -33,17 +29,13 @@ impl Kinds {
         ensures agrees { result ≡ not (other_kind (slice_index_or self.old.cells variable None) kind) }
         ensures noted { self.new.cells ≡ noted self.old.cells variable kind (slice_index_or self.old.cells variable None) }
     {
-        let i = variable as usize;
-        if i >= 16 {
-            return true;
+        if let Some(known) = self.get(variable) {
+            return known == kind;
         }
-        let cell = self.cells[i];
-        match cell {
-            None => {
-                self.cells[i] = Some(kind);
-                true
-            }
-            Some(known) => known == kind,
+        let i = usize::from(variable);
+        if i < self.cells.len() {
+            self.cells[i] = Some(kind);
         }
+        true
     }
 }

@@ -74,10 +74,7 @@ impl Query {
         ensures value { result.now ≡ slice_index_or (variable_names self.now) variable [] }
     {
         let names = self.variables.as_slice();
-        if variable >= names.len() {
-            return &[];
-        }
-        names[variable].as_slice()
+        names.get(variable).map_or(&[], |name| name.as_slice())
     }
 }
 

@@ -5,35 +5,25 @@ ghost use Rattle.lexing.specs.Names.{all};
 ghost use Rattle.query.specs.Reading.{is_arrow};
 ghost use Rattle.query.specs.Terms.{is_variable, is_constant, value};
 
-use lexing::{Alphabet, Class, all_belong, class_of};
-
-// The largest value.
-const VALUE_MAX: u64 = 4294967295;
+use lexing::{Alphabet, all_belong, is_identifier};
 
 // Whether a token is a variable of any length.
+#[tactic(auto, using(crate::proofs::Spelling::variable_identifier))]
 pub(crate) fn is_variable(token: &[u8]) -> bool
     ensures value { result ≡ is_variable token.now }
 {
-    if token.len() == 0 {
-        return false;
-    }
-    match class_of(token[0]) {
-        Class::Upper => all_belong(Alphabet::Words, &token[1..]),
-        _ => false,
-    }
+    is_identifier(Alphabet::Upper, Alphabet::Words, token)
 }
 
 // Whether a token is a constant of any size.
+#[tactic(auto, unfolding(crate::specs::Terms::is_constant))]
 pub(crate) fn is_constant(token: &[u8]) -> bool
     ensures value { result ≡ is_constant token.now }
 {
-    if token.len() == 0 {
-        return false;
+    match token {
+        [] | [b'0', _, ..] => false,
+        _ => all_belong(Alphabet::Digits, token),
     }
-    if !all_belong(Alphabet::Digits, token) {
-        return false;
-    }
-    token[0] != b'0' || token.len() == 1
 }
 
 // The value that digits spell, unless it is above the largest.
@@ -41,14 +31,12 @@ pub(crate) fn constant_of(token: &[u8]) -> Option<u32>
     requires digits { all digit token.now ≡ true }
     ensures value { MatchOption result (4294967295 < value token.now) (λ v. (v ≡ value token.now) × (v ≤ 4294967295)) }
 {
-    let mut sum = 0;
+    let mut sum: u32 = 0;
     for byte in token {
-        sum = 10 * sum + (*byte - b'0') as u64;
-        if sum > VALUE_MAX {
-            return None;
-        }
+        let digit = u32::from(*byte - b'0');
+        sum = sum.checked_mul(10)?.checked_add(digit)?;
     }
-    Some(sum as u32)
+    Some(sum)
 }
 
 // Whether a token is `:-`.

@@ -1,17 +1,13 @@
-use Rattle.query.proofs.Placing.{sought_first, sought_blank, sought_here, sought_later, sought_past}
+use Rattle.std.proofs.Common.{not, ap, ◌∙◌, rules, tests}
+use Rattle.std.specs.Iterator.Adapters.{filter_source, filter_callee}
+use Rattle.std.proofs.lemmas.Iterator.{YieldsList-from_map}
+use Rattle.std.proofs.lemmas.Iterator.Consumers.{YieldsList-from_first, YieldsList-from_filter, nth_from_yields_List}
+use Rattle.lexing.specs.Left.{placed_token, tokens_left}
+use Rattle.lexing.specs.Tokens.{Placed, is_blank_token}
+use Rattle.query.proofs.Placing.{place_found}
 use Rattle.query.proofs.ends.place_of_token.Goals as goal
 
-pub loop-place-init : goal.loop-place-init
-loop-place-init c = sought_first _ _
-
-pub loop-place-preserved-then-is_blank : goal.loop-place-preserved-then-is_blank
-loop-place-preserved-then-is_blank c = sought_blank _ _ _ _ _ c.loop-place.invariant (c.token_end-end.ensures.cut c.loop-place-test.true) c.if-is_blank.ensures.value
-
-pub returns-then-left-eq0 : goal.returns-then-left-eq0
-returns-then-left-eq0 c = record { value = λ h. sought_here _ _ _ _ _ c.loop-place.invariant (c.token_end-end.ensures.cut c.loop-place-test.true) c.if-is_blank.ensures.value c.if-left-eq0.true }
-
-pub loop-place-preserved : goal.loop-place-preserved
-loop-place-preserved c = sought_later _ _ _ _ _ c.loop-place.invariant (c.token_end-end.ensures.cut c.loop-place-test.true) c.if-is_blank.ensures.value c.if-left-eq0.false
-
 pub returns : goal.returns
-returns c = record { value = sought_past _ _ _ _ c.loop-place.invariant c.loop-place-test.false }
+returns c =
+    let nth = nth_from_yields_List c.nth.result c.nth.new.self c.args.number c.nth.ensures.ran (YieldsList-from_map _ (λ (t : Placed). t.place) (YieldsList-from_filter _ (λ (t : Placed). not (is_blank_token t.token)) (YieldsList-from_first placed_token tokens_left _ (ap (λ z. tokens_left (filter_source z)) c.map.ensures.source ∙ ap tokens_left c.filter.ensures.source ∙ c.new.ensures.all)) (ap filter_callee c.map.ensures.source ∙ c.filter.ensures.closure) (λ x b q k. search (rules, tests))) c.map.ensures.closure (λ x r q k. search (rules, tests))) in
+    record { value = c.unwrap_or.ensures ∙ place_found c.args.text.now c.args.number c.nth.result nth }

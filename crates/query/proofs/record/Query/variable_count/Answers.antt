@@ -1,6 +1,0 @@
-use Rattle.std.proofs.Common.{sym, ◌∙◌}
-use Rattle.lexing.proofs.Holding.{names_length}
-use Rattle.query.proofs.record.Query.variable_count.Goals as goal
-
-pub returns : goal.returns
-returns c = record { value = c.len.ensures.value ∙ sym (names_length c.args.self.now.variables) }
