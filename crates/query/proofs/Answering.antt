@@ -1,29 +1,32 @@
 -- From the reader's way to the answer, and that there is one answer.
-use Rattle.std.proofs.Common.{◌≡◌, ℕ, zero, suc, ◌+◌, ◌*◌, ◌<◌, ◌≤◌, Bool, true, false, ◌||◌, ◌⊎◌, List, [], ◌∷◌, ◌++◌, map, length, get_or, take, is_some, Some, None, Ok, sym, refl, ap, ◌∙◌, subst, inl, inr, arith}
+use Rattle.std.proofs.Common.{◌≡◌, ℕ, zero, suc, ◌+◌, ◌*◌, ◌<◌, ◌≤◌, Bool, true, false, ◌||◌, ◌⊎◌, List, [], ◌∷◌, ◌++◌, map, length, get_or, take, is_some, Some, None, Ok, Err, sym, refl, ap, ◌∙◌, subst, inl, inr, arith}
 use Rattle.std.specs.Str.{bytes_eq}
 use Rattle.std.proofs.lemmas.List.{length-take-le}
-use Rattle.faults.specs.declared.refusal.Refusal.TheVariants.{QueryLimit, HeadVariableMissing}
+use Rattle.faults.specs.declared.refusal.Refusal.TheVariants.{HeadVariableMissing}
 use Rattle.lexing.specs.Tokens.{Token}
 use Rattle.lexing.specs.Names.{among, number_of, numbers, AllAmong}
 use Rattle.bounded.specs.Held.{held}
 use Rattle.lexing.specs.Lists.{names}
+use Rattle.lexing.specs.declared.flaw.Flaw.{Flaw}
 use Rattle.lexing.specs.Grammars.{Accepted}
+use Rattle.lexing.specs.Readers.{HasRead}
 use Rattle.lexing.proofs.Bools.{which, clash}
 use Rattle.lexing.proofs.Naming.{same_is, numbers_at, numbers_length}
 use Rattle.bounded.proofs.Holding.{length_held}
 use Rattle.lexing.proofs.Holding.{names_length}
-use Rattle.lexing.proofs.Course.{accepted_so, over_so}
+use Rattle.lexing.proofs.Course.{accepted_so, refused_read}
 use Rattle.catalogue.specs.declared.record.Catalogue.{Catalogue}
 use Rattle.catalogue.specs.Records.{Described, described}
 use Rattle.bounded.specs.declared.list.Bounded.{Bounded}
 use Rattle.query.specs.declared.term.Literal as rl
 use Rattle.query.specs.declared.record.Query.{Query}
-use Rattle.query.specs.declared.state.Reader.{Reader}
+use Rattle.query.specs.declared.draft.Draft.{Draft}
+use Rattle.query.specs.declared.reader.Reader.{Reader}
 use Rattle.query.specs.Terms.{is_variable}
 use Rattle.query.specs.Plain.{plain_literal, all_fitting, all_occur, sound}
 use Rattle.query.specs.Records.{literal_of, Records}
-use Rattle.query.specs.Rules.{Atom, items, items_in, commas, arrow, write_literals, write_atom, Have, stopped, known, kind_in, queries}
-use Rattle.query.specs.Reading.{steps, Tied, GoneThrough}
+use Rattle.query.specs.Rules.{Atom, items, items_in, commas, arrow, write_literals, write_atom, Have, Part, wanted, named, due, listed, closed, stopped, known, kind_in, queries}
+use Rattle.query.specs.Reading.{steps, ReadAt, Tied}
 use Rattle.query.specs.Ends.{FirstMissing, places, tokens_of}
 use Rattle.query.specs.Texts.{Written, Missing, QueryRefused, QueryAccepted}
 use Rattle.query.proofs.Laws.{lawful}
@@ -125,7 +128,7 @@ have_at f (y ∷ xs) x zero a e h = a.0
 have_at f (y ∷ xs) x (suc k) a e h = have_at f xs x k a.1 e (omega arith)
 
 -- what a reader has read of a whole query
-module _ (cat : Described) (text : List ℕ) (r : Reader) (h : Atom) (ls : List Atom) (a : Atom) (acc : Accepted (queries cat) text (stopped (h ∷ ls) a)) (tied : Tied cat r (stopped (h ∷ ls) a)) where
+module _ (cat : Described) (text : List ℕ) (d : Draft) (h : Atom) (ls : List Atom) (a : Atom) (acc : Accepted (queries cat) text (stopped (h ∷ ls) a)) (read : ReadAt cat d (stopped (h ∷ ls) a)) where
   abbrev ms : List Atom
   ms = ls ++ a ∷ []
 
@@ -138,16 +141,16 @@ module _ (cat : Described) (text : List ℕ) (r : Reader) (h : Atom) (ls : List 
   variable_at : (k : ℕ) → k < length (items h) → is_variable (get_or (items h) k []) ≡ true
   variable_at k w = have_at is_variable h.front h.last k acc.good.0.0.fronts acc.good.0.0.lasts w
 
-  head_length : length (held r.head) ≡ length (items h)
-  head_length = ap length tied.state.head ∙ numbers_length vs (items h)
+  head_length : length (held d.head) ≡ length (items h)
+  head_length = ap length read.head ∙ numbers_length vs (items h)
 
-  kind_at : (k : ℕ) → k < length (items h) → is_some (get_or r.kinds.cells (get_or (held r.head) k 0) None) ≡ among (get_or (items h) k []) (items_in ms)
+  kind_at : (k : ℕ) → k < length (items h) → is_some (get_or d.kinds.cells (get_or (held d.head) k 0) None) ≡ among (get_or (items h) k []) (items_in ms)
   kind_at k w =
       let v = get_or (items h) k [] in
-      let e : get_or (held r.head) k 0 ≡ number_of v vs = ap (λ (l : List ℕ). get_or l k 0) tied.state.head ∙ numbers_at vs (items h) k w in
-      ap (λ (n : ℕ). is_some (get_or r.kinds.cells n None)) e ∙ ap (is_some {T = ℕ}) (tied.state.kinds v (variable_at k w) ∙ or_else_none (kind_in cat v ms)) ∙ kind_in_there cat v ms
+      let e : get_or (held d.head) k 0 ≡ number_of v vs = ap (λ (l : List ℕ). get_or l k 0) read.head ∙ numbers_at vs (items h) k w in
+      ap (λ (n : ℕ). is_some (get_or d.kinds.cells n None)) e ∙ ap (is_some {T = ℕ}) (read.kinds v (variable_at k w) ∙ or_else_none (kind_in cat v ms)) ∙ kind_in_there cat v ms
 
-  module _ (all : FirstMissing (held r.head) r.kinds.cells None) where
+  module _ (all : FirstMissing (held d.head) d.kinds.cells None) where
     all_there : AllAmong (items h) (items_in ms)
     all_there = all_from (items h) (items_in ms) (λ k w. sym (kind_at k w) ∙ all k (let z = head_length in omega arith))
 
@@ -159,70 +162,69 @@ module _ (cat : Described) (text : List ℕ) (r : Reader) (h : Atom) (ls : List 
     have_all [] x f e = (e, tt)
     have_all (y ∷ xs) x f e = (f.0, have_all xs x f.1 e)
 
-    pub is_sound : sound cat.columns r.variables.used (held r.head) (map plain_literal (held r.literals)) ≡ true
+    pub is_sound : sound cat.columns d.variables.used (held d.head) (map plain_literal (held d.literals)) ≡ true
     is_sound =
-        let s = tied.state in
-        let count : length vs ≡ r.variables.used = ap length (sym s.variables) ∙ names_length r.variables ∙ length_held r.variables in
-        let fit : all_fitting cat.columns r.variables.used (map plain_literal (held r.literals)) ≡ true = subst (λ (n : ℕ). all_fitting cat.columns n (map plain_literal (held r.literals)) ≡ true) count s.fitting in
-        let occ : all_occur (held r.head) (map plain_literal (held r.literals)) ≡ true = (let q = occur (items h) (have_all h.front h.last acc.good.0.0.fronts acc.good.0.0.lasts) all_there in rw (s.head, s.literals) q) in
+        let count : length vs ≡ d.variables.used = ap length (sym read.variables) ∙ names_length d.variables ∙ length_held d.variables in
+        let fit : all_fitting cat.columns d.variables.used (map plain_literal (held d.literals)) ≡ true = subst (λ (n : ℕ). all_fitting cat.columns n (map plain_literal (held d.literals)) ≡ true) count read.fitting in
+        let occ : all_occur (held d.head) (map plain_literal (held d.literals)) ≡ true = (let q = occur (items h) (have_all h.front h.last acc.good.0.0.fronts acc.good.0.0.lasts) all_there in rw (read.head, read.literals) q) in
         rw fit occ
 
     pub is_accepted : QueryAccepted cat text h ms
     is_accepted = record { written = is_written; complete = all_there }
 
-  pub is_missing : (i place : ℕ) → FirstMissing (held r.head) r.kinds.cells (Some i) → place ≡ get_or (places (tokens_of text)) (2 * i + 2) 0 → QueryRefused cat text HeadVariableMissing place
+  pub is_missing : (i place : ℕ) → FirstMissing (held d.head) d.kinds.cells (Some i) → place ≡ get_or (places (tokens_of text)) (2 * i + 2) 0 → QueryRefused cat text HeadVariableMissing place
   is_missing i place f g =
       let w : i < length (items h) = (let z = head_length in omega (arith, f.0)) in
       let b = absent cat text h ls a ms acc i w (sym (kind_at i w) ∙ f.1) (λ k q. sym (kind_at k (omega arith)) ∙ f.2 k q) in
       inr (h, ms, is_written, subst (Missing cat text h ms) (sym (g ∙ b.there)) b.missing, refl)
 
--- the three ways out of a text that was gone through
-module _ (c : Catalogue) (text : List ℕ) (r : Reader) (gone : GoneThrough (described c) text (Ok r)) where
+-- a text that was read
+module _ (c : Catalogue) (text : List ℕ) where
   abbrev cat : Described
   cat = described c
 
-  pub too_long_so : 4096 < length text → QueryRefused cat text QueryLimit 4096
-  too_long_so h = inl (over_so (queries cat) (steps cat) (lawful cat) text (stopped gone.0 gone.1) gone.2 h)
+  pub refused_so : (f : Flaw) → HasRead (queries cat) (steps cat) (Tied cat) text (Err f) → QueryRefused cat text f.refusal f.place
+  refused_so f h = inl (refused_read (queries cat) (steps cat) (lawful cat) text f h)
 
-  module _ (short : length text ≤ 4096) where
-    whole_so : Accepted (queries cat) text (stopped gone.0 gone.1)
-    whole_so = accepted_so (queries cat) (steps cat) (lawful cat) text (stopped gone.0 gone.1) gone.2 short
-
+  module _ (r : Reader) (has : HasRead (queries cat) (steps cat) (Tied cat) text (Ok r)) where
     record WholeQuery : Type 0 where
       h : Atom
       ls : List Atom
-      acc : Accepted (queries cat) text (stopped (h ∷ ls) gone.1)
-      tied : Tied cat r (stopped (h ∷ ls) gone.1)
+      last : Atom
+      acc : Accepted (queries cat) text (stopped (h ∷ ls) last)
+      read : ReadAt cat r.draft (stopped (h ∷ ls) last)
 
     whole_query : WholeQuery
-    whole_query =
-        let z = headed cat text gone.0 gone.1 whole_so in
-        record {
-          h = z.0;
-          ls = z.1;
-          acc = subst (λ (us : List Atom). Accepted (queries cat) text (stopped us gone.1)) z.2 whole_so;
-          tied = subst (λ (us : List Atom). Tied cat r (stopped us gone.1)) z.2 gone.3;
-        }
+    whole_query = go has.1.0 (accepted_so (queries cat) (steps cat) (lawful cat) text has.1.0 has.1.1 has.0) has.1.2.read
+      where
+        go : (p : Part) → Accepted (queries cat) text p → ReadAt cat r.draft p → WholeQuery
+        go (wanted us) acc read = absurd (clash acc.complete refl)
+        go (named us n) acc read = absurd (clash acc.complete refl)
+        go (due us n ts) acc read = absurd (clash acc.complete refl)
+        go (listed us n ts t) acc read = absurd (clash acc.complete refl)
+        go (closed us a) acc read = absurd (clash acc.complete refl)
+        go (stopped [] a) acc read = absurd (clash acc.good.2 refl)
+        go (stopped (h ∷ ls) a) acc read = record { h = h; ls = ls; last = a; acc = acc; read = read }
 
-    pub missing_so : (i place : ℕ) → FirstMissing (held r.head) r.kinds.cells (Some i) → place ≡ get_or (places (tokens_of text)) (2 * i + 2) 0 → QueryRefused cat text HeadVariableMissing place
-    missing_so i place f g = let w = whole_query in is_missing cat text r w.h w.ls gone.1 w.acc w.tied i place f g
+    pub missing_so : (i place : ℕ) → FirstMissing (held r.draft.head) r.draft.kinds.cells (Some i) → place ≡ get_or (places (tokens_of text)) (2 * i + 2) 0 → QueryRefused cat text HeadVariableMissing place
+    missing_so i place f g = let w = whole_query in is_missing cat text r.draft w.h w.ls w.last w.acc w.read i place f g
 
-    pub sound_so : FirstMissing (held r.head) r.kinds.cells None → sound cat.columns r.variables.used (held r.head) (map plain_literal (held r.literals)) ≡ true
-    sound_so f = let w = whole_query in is_sound cat text r w.h w.ls gone.1 w.acc w.tied f
+    pub sound_so : FirstMissing (held r.draft.head) r.draft.kinds.cells None → sound cat.columns r.draft.variables.used (held r.draft.head) (map plain_literal (held r.draft.literals)) ≡ true
+    sound_so f = let w = whole_query in is_sound cat text r.draft w.h w.ls w.last w.acc w.read f
 
-    pub read_so : FirstMissing (held r.head) r.kinds.cells None → (q : Query) → q.catalogue ≡ c → q.variables ≡ r.variables → q.head ≡ r.head → q.literals ≡ r.literals →
+    pub read_so : FirstMissing (held r.draft.head) r.draft.kinds.cells None → (q : Query) → q.catalogue ≡ c → q.variables ≡ r.draft.variables → q.head ≡ r.draft.head → q.literals ≡ r.draft.literals →
         (h : Atom) × (ls : List Atom) × QueryAccepted cat text h ls × Records q c h ls
     read_so f q ec ev eh el =
         let w = whole_query in
-        let s = w.tied.state in
+        let s = w.read in
         let e = ap names ev ∙ s.variables in (
           w.h,
-          w.ls ++ gone.1 ∷ [],
-          is_accepted cat text r w.h w.ls gone.1 w.acc w.tied f,
+          w.ls ++ w.last ∷ [],
+          is_accepted cat text r.draft w.h w.ls w.last w.acc w.read f,
           record {
             catalogue = ec;
             variables = e;
             head = ap held eh ∙ s.head ∙ ap (λ (l : List Token). numbers l (items w.h)) (sym e);
-            literals = ap (λ (l : Bounded rl.Literal 8). map plain_literal (held l)) el ∙ s.literals ∙ ap (λ (l : List Token). map (literal_of cat l) (w.ls ++ gone.1 ∷ [])) (sym e);
+            literals = ap (λ (l : Bounded rl.Literal 8). map plain_literal (held l)) el ∙ s.literals ∙ ap (λ (l : List Token). map (literal_of cat l) (w.ls ++ w.last ∷ [])) (sym e);
           },
         )

@@ -16,7 +16,7 @@ use Rattle.catalogue.specs.Records.{Described}
 use Rattle.query.specs.Terms.{is_variable, is_constant, is_term, value}
 use Rattle.query.specs.Noted.{other_kind}
 use Rattle.query.specs.Rules.{Atom, commas, write_atom, write_literals, arrow, write_atoms, Have, Formed, AllFormed, item_form, FormedAtoms, Part, wanted, named, due, listed, closed, stopped, shown, Good, whole, known, kinds_at, kind_of, Cause, long_head, fifth_head_variable, unknown_source, ninth_literal, term_too_many, closed_early, long_variable, seventeenth_variable, two_kinds, constant_too_large, queries}
-use Rattle.query.specs.Reading.{fits, atom, next, stray, over, mixed, large, refusal, wrong, steps}
+use Rattle.query.specs.Reading.{fits, atom_of, next, stray, over, mixed, large, refusal, wrong, steps}
 
 -- one more at the end
 have_more : (f : Token → Bool) (ts : List Token) (t : Token) → Have f ts → f t ≡ true → Have f (ts ++ t ∷ [])
@@ -41,7 +41,7 @@ good_next (named us n) t g e = (g.0, g.1, tt)
 good_next (due us n ts) t g e = (g.0, g.1, g.2, e)
 good_next (listed us n ts x) t g e = go (is 44 t)
   where
-    go : (b : Bool) → Good (cond b (due us n (ts ++ x ∷ [])) (closed us (atom n ts x)))
+    go : (b : Bool) → Good (cond b (due us n (ts ++ x ∷ [])) (closed us (atom_of n ts x)))
     go true = (g.0, g.1, have_more (item_form us) ts x g.2 g.3)
     go false = (g.0, record { named = g.1; fronts = g.2; lasts = g.3 })
 good_next (closed [] a) t g e = (g.1, tt)
@@ -58,7 +58,7 @@ shown_next (named us n) t rest e = ap (λ (x : Token). write_atoms us (n ∷ x �
 shown_next (due us n ts) t rest e = refl
 shown_next (listed us n ts x) t rest e = go (one_of_two 44 41 t e)
   where
-    go : (is 44 t ≡ true) ⊎ ((is 44 t ≡ false) × (t ≡ 41 ∷ [])) → shown (cond (is 44 t) (due us n (ts ++ x ∷ [])) (closed us (atom n ts x))) rest ≡ shown (listed us n ts x) (t ∷ rest)
+    go : (is 44 t ≡ true) ⊎ ((is 44 t ≡ false) × (t ≡ 41 ∷ [])) → shown (cond (is 44 t) (due us n (ts ++ x ∷ [])) (closed us (atom_of n ts x))) rest ≡ shown (listed us n ts x) (t ∷ rest)
     go (inl i) = rw i (ap (λ (r : List Token). write_atoms us (n ∷ (40 ∷ []) ∷ r)) (commas_more ts x rest) ∙ ap (λ (y : Token). shown (listed us n ts x) (y ∷ rest)) (sym (is_it 44 t i)))
     go (inr i) = rw i.0 (ap (λ (y : Token). shown (listed us n ts x) (y ∷ rest)) (sym i.1))
 shown_next (closed [] a) t rest e = ap (λ (y : Token). write_atom a (y ∷ rest)) (sym (same_is t arrow e))

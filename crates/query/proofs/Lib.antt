@@ -2,7 +2,6 @@ pub mod Spelling
 pub mod Laws
 pub mod Growing
 pub mod Taking
-pub mod Ways
 pub mod Placing
 pub mod Answering
 pub mod Single

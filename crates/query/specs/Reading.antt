@@ -1,23 +1,26 @@
--- The steps of the reader, and how its state goes with the part that is read. None of this is part of what a text means.
-use Rattle.std.specs.Prelude.{◌≡◌, ℕ, ◌<◌, ◌≤◌, Bool, true, false, cond, not, ◌&&◌, ◌||◌, List, [], ◌∷◌, ◌++◌, map, length, Some, None, Ok, Err, Option, Result, nat_le, nat_lt, slice_index, slice_index_or}
+-- The steps of the reader, and how what it has read goes with the part that is read. None of this is part of what a text means.
+use Rattle.std.specs.Prelude.{◌≡◌, ℕ, ◌<◌, ◌≤◌, Bool, true, false, cond, not, ◌&&◌, ◌||◌, List, [], ◌∷◌, ◌++◌, map, length, Some, None, Option, nat_le, nat_lt, slice_index, slice_index_or}
 use Rattle.std.specs.Str.{bytes_eq}
 use Rattle.faults.specs.declared.refusal.Refusal.{Refusal}
 use Rattle.faults.specs.declared.refusal.Refusal.TheVariants.{QueryForm, UnfitLiteral, QueryLimit, VariableInTwoKinds, ConstantTooLarge}
-use Rattle.lexing.specs.declared.flaw.Flaw.{Flaw}
 use Rattle.lexing.specs.Tokens.{Token, is}
 use Rattle.lexing.specs.Names.{is_name, among, number_of, numbers, AllAmong}
 use Rattle.bounded.specs.Held.{held}
 use Rattle.lexing.specs.Lists.{names, crowded}
-use Rattle.lexing.specs.Readers.{Steps, from}
+use Rattle.lexing.specs.Readers.{Steps}
 use Rattle.catalogue.specs.Records.{Described, described}
-use Rattle.query.specs.declared.state.Reader.{Reader}
-use Rattle.query.specs.declared.state.Stage.{Stage}
-use Rattle.query.specs.declared.state.Stage.TheVariants as at
+use Rattle.query.specs.declared.term.Term as record_term
+use Rattle.query.specs.declared.term.Literal as record_literal
+use Rattle.query.specs.declared.draft.Draft.{Draft}
+use Rattle.query.specs.declared.stage.Begun.TheVariants as atom
+use Rattle.query.specs.declared.stage.Stage.{Stage}
+use Rattle.query.specs.declared.stage.Stage.TheVariants as at
+use Rattle.query.specs.declared.reader.Reader.{Reader}
 use Rattle.query.specs.Noted.{other_kind}
 use Rattle.query.specs.Terms.{is_variable, is_constant, value}
 use Rattle.query.specs.Plain.{plain_term, plain_literal, all_fitting}
 use Rattle.query.specs.Records.{term_of, literal_of}
-use Rattle.query.specs.Rules.{Atom, items, arrow, item_form, Part, wanted, named, due, listed, closed, stopped, some, known, kinds_at, kind_of, queries}
+use Rattle.query.specs.Rules.{Atom, items, arrow, item_form, Part, wanted, named, due, listed, closed, stopped, known, kinds_at, kind_of, queries}
 
 abbrev pub is_arrow : Token → Bool
 is_arrow t = bytes_eq t arrow
@@ -34,8 +37,8 @@ fits (listed us n ts x) t = is 44 t || is 41 t
 fits (closed us a) t = closes us t
 fits (stopped us a) t = false
 
-abbrev pub atom : Token → List Token → Token → Atom
-atom n ts t = record { name = n; front = ts; last = t }
+abbrev pub atom_of : Token → List Token → Token → Atom
+atom_of n ts t = record { name = n; front = ts; last = t }
 
 abbrev pub after_atom : List Atom → Atom → Token → Part
 after_atom [] a t = wanted (a ∷ [])
@@ -45,7 +48,7 @@ abbrev pub next : Part → Token → Part
 next (wanted us) t = named us t
 next (named us n) t = due us n []
 next (due us n ts) t = listed us n ts t
-next (listed us n ts x) t = cond (is 44 t) (due us n (ts ++ x ∷ [])) (closed us (atom n ts x))
+next (listed us n ts x) t = cond (is 44 t) (due us n (ts ++ x ∷ [])) (closed us (atom_of n ts x))
 next (closed us a) t = after_atom us a t
 next (stopped us a) t = stopped us a
 
@@ -117,60 +120,65 @@ kind_behind cat v [] n ts = None
 kind_behind cat v (h ∷ ls) n ts = kind_of cat v ls n ts
 
 -- these variables are read, with these kinds, these items of the head, and these literals
-pub record Seen (cat : Described) (r : Reader) (headed : Bool) (vs hd : List Token) (ls : List Atom) (kind : Token → Option ℕ) : Type 0 where
-  pub catalogue : described r.catalogue ≡ cat
-  pub head_read : r.headed ≡ headed
-  pub variables : names r.variables ≡ vs
-  pub kinds : (v : Token) → is_variable v ≡ true → slice_index_or r.kinds.cells (number_of v vs) None ≡ kind v
-  pub unused : (j : ℕ) → length vs ≤ j → slice_index_or r.kinds.cells j None ≡ None
+pub record Seen (cat : Described) (d : Draft) (vs hd : List Token) (ls : List Atom) (kind : Token → Option ℕ) : Type 0 where
+  pub catalogue : described d.catalogue ≡ cat
+  pub variables : names d.variables ≡ vs
+  pub kinds : (v : Token) → is_variable v ≡ true → slice_index_or d.kinds.cells (number_of v vs) None ≡ kind v
+  pub unused : (j : ℕ) → length vs ≤ j → slice_index_or d.kinds.cells j None ≡ None
   pub heads : AllAmong hd vs
-  pub head : held r.head ≡ numbers vs hd
-  pub literals : map plain_literal (held r.literals) ≡ map (literal_of cat vs) ls
-  pub fitting : all_fitting cat.columns (length vs) (map plain_literal (held r.literals)) ≡ true
+  pub head : held d.head ≡ numbers vs hd
+  pub literals : map plain_literal (held d.literals) ≡ map (literal_of cat vs) ls
+  pub fitting : all_fitting cat.columns (length vs) (map plain_literal (held d.literals)) ≡ true
 
 -- behind whole atoms, a name and items
-abbrev pub Behind : Described → Reader → Bool → List Atom → Token → List Token → Type 0
-Behind cat r headed us n ts = Seen cat r headed (known us ts) (head_items us ts) (body us) (λ v. kind_behind cat v us n ts)
+abbrev pub Behind : Described → Draft → List Atom → Token → List Token → Type 0
+Behind cat d us n ts = Seen cat d (known us ts) (head_items us ts) (body us) (λ v. kind_behind cat v us n ts)
 
--- the literal that is begun, one more than these; the head needs nothing
-pub record Begun (cat : Described) (r : Reader) (vs : List Token) (count : ℕ) (n : Token) (ts : List Token) : Type 0 where
+-- a literal is begun, one more than these, of this source and with these terms
+pub record Begins (cat : Described) (source : ℕ) (terms : List record_term.Term) (vs : List Token) (count : ℕ) (n : Token) (ts : List Token) : Type 0 where
   pub room : count < 8
   pub there : among n cat.names ≡ true
-  pub source : r.source ≡ number_of n cat.names
-  pub terms : map plain_term (held r.terms) ≡ map (term_of vs) ts
+  pub source_is : source ≡ number_of n cat.names
+  pub terms_are : map plain_term terms ≡ map (term_of vs) ts
   pub within : length ts ≤ length (kinds_at cat n)
 
-abbrev pub Current : Described → Reader → List Atom → Token → List Token → Type 0
-Current cat r [] n ts = Unit {0}
-Current cat r (h ∷ ls) n ts = Begun cat r (known (h ∷ ls) ts) (length ls) n ts
+abbrev pub BeginsLiteral : Described → record_literal.Literal → Atom → List Atom → Token → List Token → Type 0
+BeginsLiteral cat l h ls n ts = Begins cat l.source (held l.terms) (known (h ∷ ls) ts) (length ls) n ts
 
-abbrev pub State : Described → Reader → Part → Type 0
-State cat r (wanted us) = Behind cat r (some us) us [] []
-State cat r (named us n) = Behind cat r (some us) us n [] × Current cat r us n []
-State cat r (due us n ts) = Behind cat r (some us) us n ts × Current cat r us n ts
-State cat r (listed us n ts t) = Behind cat r (some us) us n (ts ++ t ∷ []) × Current cat r us n (ts ++ t ∷ [])
-State cat r (closed us a) = Behind cat r (some us) (us ++ a ∷ []) [] []
-State cat r (stopped us a) = Behind cat r true (us ++ a ∷ []) [] []
+-- the stage behind a part: the head is the first atom, and a literal is begun behind it
+pub data StageAt (cat : Described) : Stage → Part → Type 0 where
+  start : StageAt cat at.Start (wanted [])
+  wanted_literal : (h : Atom) (ls : List Atom) → StageAt cat at.Wanted (wanted (h ∷ ls))
+  named_head : (n : Token) → StageAt cat (at.Named atom.Head) (named [] n)
+  named_literal : (l : record_literal.Literal) (h : Atom) (ls : List Atom) (n : Token) → BeginsLiteral cat l h ls n [] → StageAt cat (at.Named (atom.Literal l)) (named (h ∷ ls) n)
+  due_head : (n : Token) (ts : List Token) → StageAt cat (at.Due atom.Head) (due [] n ts)
+  due_literal : (l : record_literal.Literal) (h : Atom) (ls : List Atom) (n : Token) (ts : List Token) → BeginsLiteral cat l h ls n ts → StageAt cat (at.Due (atom.Literal l)) (due (h ∷ ls) n ts)
+  listed_head : (n : Token) (ts : List Token) (t : Token) → StageAt cat (at.Listed atom.Head) (listed [] n ts t)
+  listed_literal : (l : record_literal.Literal) (h : Atom) (ls : List Atom) (n : Token) (ts : List Token) (t : Token) → BeginsLiteral cat l h ls n (ts ++ t ∷ []) →
+      StageAt cat (at.Listed (atom.Literal l)) (listed (h ∷ ls) n ts t)
+  headed : (a : Atom) → StageAt cat at.Headed (closed [] a)
+  closed_literal : (h : Atom) (ls : List Atom) (a : Atom) → StageAt cat at.Closed (closed (h ∷ ls) a)
+  whole : (us : List Atom) (a : Atom) → StageAt cat at.Stopped (stopped us a)
 
-abbrev pub stage_of : Part → Stage
-stage_of (wanted us) = at.Wanted
-stage_of (named us n) = at.Named
-stage_of (due us n ts) = at.Due
-stage_of (listed us n ts t) = at.Listed
-stage_of (closed us a) = at.Closed
-stage_of (stopped us a) = at.Stopped
+-- what is read behind a part
+abbrev pub ReadAt : Described → Draft → Part → Type 0
+ReadAt cat d (wanted us) = Behind cat d us [] []
+ReadAt cat d (named us n) = Behind cat d us n []
+ReadAt cat d (due us n ts) = Behind cat d us n ts
+ReadAt cat d (listed us n ts t) = Behind cat d us n (ts ++ t ∷ [])
+ReadAt cat d (closed us a) = Behind cat d (us ++ a ∷ []) [] []
+ReadAt cat d (stopped us a) = Behind cat d (us ++ a ∷ []) [] []
+
+-- a draft and a stage stand behind the part
+pub record Stands (cat : Described) (d : Draft) (s : Stage) (p : Part) : Type 0 where
+  pub stage : StageAt cat s p
+  pub read : ReadAt cat d p
 
 -- the reader stands behind the part
-pub record Tied (cat : Described) (r : Reader) (p : Part) : Type 0 where
-  pub stage : r.stage ≡ stage_of p
-  pub state : State cat r p
+abbrev pub Tied : Described → Reader → Part → Type 0
+Tied cat r p = Stands cat r.draft r.stage p
 
--- a token is taken: what is wrong with it, or the reader stands behind it
-pub record Taken (cat : Described) (new : Reader) (p : Part) (t : Token) (r : Option Refusal) : Type 0 where
-  pub told : r ≡ wrong cat p t
-  pub tied : r ≡ None → Tied cat new (next p t)
-
--- what the reader's way over the whole text gives
-abbrev pub GoneThrough : Described → List ℕ → Result Reader Flaw → Type 0
-GoneThrough cat text (Ok r) = (us : List Atom) × (a : Atom) × (from (queries cat) (steps cat) text 0 (wanted []) ≡ Ok (stopped us a)) × Tied cat r (stopped us a)
-GoneThrough cat text (Err f) = from (queries cat) (steps cat) text 0 (wanted []) ≡ Err f
+-- a term is taken: with it the draft and the literal stand behind the part
+pub data TermTaken (cat : Described) (d : Draft) (l : record_literal.Literal) (term : record_term.Term) : Part → Type 0 where
+  term_taken : (h : Atom) (ls : List Atom) (n : Token) (ts : List Token) (t : Token) → Behind cat d (h ∷ ls) n (ts ++ t ∷ []) →
+      Begins cat l.source (held l.terms ++ term ∷ []) (known (h ∷ ls) (ts ++ t ∷ [])) (length ls) n (ts ++ t ∷ []) → TermTaken cat d l term (listed (h ∷ ls) n ts t)

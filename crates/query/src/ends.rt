@@ -3,12 +3,10 @@ ghost use Rattle.std.specs.Prelude.{◌≡◌, ◌<◌, length, slice_index};
 ghost use Rattle.bounded.specs.Held.{held};
 ghost use Rattle.query.specs.Ends.{FirstMissing, places, tokens_of};
 
-use crate::record::Query;
-use crate::state::Reader;
-use catalogue::Catalogue;
+use crate::draft::Draft;
 use lexing::{Tokens, is_blank};
 
-impl Reader {
+impl Draft {
     // The first variable of the head that stands in no literal, by its place in the head.
     pub(crate) fn first_missing(&self) -> Option<usize>
         ensures value { FirstMissing (held self.now.head) self.now.kinds.cells result }

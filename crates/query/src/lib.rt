@@ -1,11 +1,12 @@
 // Queries over a catalogue, read from a text.
 #![tactic(auto)]
 
+mod draft;
 mod ends;
 mod kinds;
 mod reader;
 pub mod record;
-mod state;
+mod stage;
 pub mod term;
 pub mod text;
 mod token;

@@ -6,37 +6,28 @@ ghost use Rattle.query.specs.Records.{plain_query, variable_names};
 ghost use Rattle.query.specs.Texts.{Read, OneAnswer};
 
 use crate::ends::place_of_token;
-use crate::reader::read_tokens;
+use crate::reader::Reader;
 use crate::record::Query;
 use crate::term::{Literal, Term};
 use catalogue::Catalogue;
 use faults::{Fault, Refusal};
-use lexing::{TEXT_MAX, with_length};
+use lexing::read;
 
 impl Query {
     // The query that a text spells over a catalogue, or the first of what is wrong with the text.
     pub fn read(catalogue: Catalogue, text: &[u8]) -> Result<Query, Fault>
         ensures read { Read catalogue text.now result }
     {
-        let reader = match read_tokens(catalogue, text) {
-            Ok(reader) => reader,
-            Err(flaw) => {
-                let first = with_length(flaw, text.len(), Refusal::QueryLimit);
-                return Err(Fault::placed(first.refusal, first.place));
-            }
-        };
-        if text.len() > TEXT_MAX {
-            return Err(Fault::placed(Refusal::QueryLimit, TEXT_MAX));
-        }
-        if let Some(i) = reader.first_missing() {
+        let draft = read(Reader::new(catalogue), text)?.draft;
+        if let Some(i) = draft.first_missing() {
             let place = place_of_token(text, 2 * i + 2);
             return Err(Fault::placed(Refusal::HeadVariableMissing, place));
         }
         Ok(Query {
             catalogue,
-            variables: reader.variables,
-            head: reader.head,
-            literals: reader.literals,
+            variables: draft.variables,
+            head: draft.head,
+            literals: draft.literals,
         })
     }
 
