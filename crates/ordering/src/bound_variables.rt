@@ -1,11 +1,8 @@
 ghost use Rattle.std.specs.Prelude.{◌≡◌, false, length, replicate, Decides};
 ghost use Rattle.ordering.specs.Picking.{SetIn, AllSet, Binds};
 
-use query::Term;
+use query::{Term, VARIABLE_MAX};
 use source::Mark;
-
-// The most variables that a query has.
-const VARIABLE_MAX: usize = 16;
 
 // The variables that have a value so far: for each number whether it is that of one.
 #[derive(Drop)]

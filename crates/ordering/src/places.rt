@@ -2,9 +2,7 @@ ghost use Rattle.std.specs.Prelude.{◌≡◌, ◌<◌, [], ◌∷◌, ◌++◌,
 ghost use Rattle.ordering.specs.Listed.{places_of};
 
 use bounded::Bounded;
-
-// The most literals that a query has.
-pub const LITERAL_MAX: usize = 8;
+pub use query::LITERAL_MAX;
 
 // Places of literals in the order in which they are to be called.
 #[derive(Clone, Copy)]

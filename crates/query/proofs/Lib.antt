@@ -5,3 +5,4 @@ pub mod Taking
 pub mod Placing
 pub mod Answering
 pub mod Single
+pub mod Sources

@@ -1,5 +1,5 @@
 -- A token taken, stage by stage.
-use Rattle.std.proofs.Common.{◌≡◌, ℕ, zero, suc, ◌<◌, ◌≤◌, Bool, true, false, cond, not, ◌&&◌, ◌||◌, ltb, leb, ◌⊎◌, List, [], ◌∷◌, ◌++◌, map, length, get_or, Some, None, Option, Err, sym, refl, ap, ◌∙◌, subst, inl, inr, arith, le-ltb, lt-ltb, le-leb}
+use Rattle.std.proofs.Common.{◌≡◌, ℕ, ◌<◌, ◌≤◌, Bool, true, false, cond, not, ◌&&◌, ◌||◌, ltb, leb, ◌⊎◌, List, [], ◌∷◌, ◌++◌, map, length, get_or, Some, None, Option, Err, sym, refl, ap, ◌∙◌, subst, inl, inr, arith, le-ltb, lt-ltb, le-leb}
 use borrow.Author.Tests.{lt-leb}
 use Rattle.std.specs.Option.{ok_or}
 use Rattle.std.specs.Str.{bytes_eq}
@@ -14,12 +14,11 @@ use Rattle.bounded.specs.Held.{held}
 use Rattle.lexing.specs.Lists.{names, crowded, Numbered}
 use Rattle.lexing.proofs.Bools.{which, clash, is_it}
 use Rattle.lexing.proofs.Naming.{place_some, place_none, numbers_push, numbers_kept, numbers_length, number_added, all_among_kept, all_among_push, among_added, length_added}
-use Rattle.bounded.proofs.Holding.{length_held, pushed, length_most}
-use Rattle.lexing.proofs.Holding.{crowds, roomy, names_length}
+use Rattle.bounded.proofs.Holding.{length_held, pushed}
+use Rattle.lexing.proofs.Holding.{crowds, roomy}
 use Rattle.catalogue.specs.declared.record.Catalogue.{Catalogue}
-use Rattle.catalogue.specs.declared.columns.Columns as rc
-use Rattle.catalogue.specs.Records.{Described, described, columns_of}
-use Rattle.catalogue.specs.Plain.{no_columns, plain}
+use Rattle.catalogue.specs.Records.{Described, described, source_names, columns_of}
+use Rattle.catalogue.specs.Plain.{no_columns}
 use Rattle.query.specs.declared.term.Term as rt
 use Rattle.query.specs.declared.term.Term.TheVariants.{Constant, Variable}
 use Rattle.query.specs.declared.term.Literal as rl
@@ -34,6 +33,7 @@ use Rattle.query.specs.Plain.{Term, constant, variable, Literal, plain_term, pla
 use Rattle.query.specs.Records.{term_of, literal_of}
 use Rattle.query.specs.Rules.{Atom, items, Part, due, listed, known, kinds_at, kind_of, or_else}
 use Rattle.query.specs.Reading.{is_arrow, atom_of, fits, next, refusal, wrong, Seen, Behind, Begins, StageAt, start, wanted_literal, named_head, named_literal, due_head, due_literal, listed_head, listed_literal, headed, closed_literal, whole, ReadAt, Stands, TermTaken, term_taken}
+use Rattle.query.proofs.Sources.{few_sources, as_many_columns, few_columns}
 use Rattle.query.proofs.Spelling.{not_both_forms}
 use Rattle.query.proofs.Growing.{known_variable, known_other, known_closed, all_known, literals_known, terms_kept, literals_kept, all_fitting_kept, all_fitting_push, literal_fits, kind_of_push, kind_closed, kind_same, kinds_grown, unused_grown, kinds_noted, unused_noted}
 
@@ -94,21 +94,14 @@ constant_alone t e = go (which (is_variable t))
 literals_count : (cat : Described) (d : Draft) (vs hd : List Token) (ls : List Atom) (k : Token → Option ℕ) → Seen cat d vs hd ls k → length (held d.literals) ≡ length ls
 literals_count cat d vs hd ls k s = sym (length-map (held d.literals) plain_literal) ∙ ap length s.literals ∙ length-map ls (literal_of cat vs)
 
-pub source_small : (c : Catalogue) (t : Token) (i : ℕ) → place_of t (names c.names) ≡ Some i → i < 8
-source_small c t i e = let p = place_some t (names c.names) i e in let z = names_length c.names in let y = length_most c.names in omega (arith, p.0)
-
--- a source has at most four columns, and as many lists of columns as names
-few_columns : (xs : List rc.Columns) (i : ℕ) → length (get_or (map plain xs) i no_columns).kinds ≤ 4
-few_columns [] i = omega arith
-few_columns (x ∷ xs) zero = length_most x.kinds
-few_columns (x ∷ xs) (suc i) = few_columns xs i
+pub source_small : (c : Catalogue) (t : Token) (i : ℕ) → place_of t (source_names c) ≡ Some i → i < 8
+source_small c t i e = let p = place_some t (source_names c) i e in let z = few_sources c in omega (arith, p.0)
 
 few_kinds : (d : Draft) (cat : Described) (n : Token) → described d.catalogue ≡ cat → length (kinds_at cat n) ≤ 4
-few_kinds d cat n e = subst (λ (x : Described). length (kinds_at x n) ≤ 4) e (few_columns (held d.catalogue.columns) (number_of n (names d.catalogue.names)))
+few_kinds d cat n e = subst (λ (x : Described). length (kinds_at x n) ≤ 4) e (few_columns d.catalogue (number_of n (source_names d.catalogue)))
 
 paired_lists : (d : Draft) (cat : Described) → described d.catalogue ≡ cat → length cat.names ≡ length cat.columns
-paired_lists d cat e = subst (λ (x : Described). length x.names ≡ length x.columns) e
-    (names_length d.catalogue.names ∙ length_held d.catalogue.names ∙ d.catalogue.paired ∙ sym (length_held d.catalogue.columns) ∙ sym (length-map (held d.catalogue.columns) plain))
+paired_lists d cat e = subst (λ (x : Described). length x.names ≡ length x.columns) e (as_many_columns d.catalogue)
 
 -- a token of another form than is due
 pub unfit : (cat : Described) (p : Part) (t : Token) → fits p t ≡ false → wrong cat p t ≡ Some QueryForm
@@ -185,16 +178,16 @@ module _ {cat : Described} {d : Draft} (t : Token) where
 
 -- the name of a literal
 module _ (cat : Described) (d : Draft) (t : Token) where
-  sought : described d.catalogue ≡ cat → place_of t (names d.catalogue.names) ≡ place_of t cat.names
+  sought : described d.catalogue ≡ cat → place_of t (source_names d.catalogue) ≡ place_of t cat.names
   sought e = ap (λ (x : Described). place_of t x.names) e
 
-  pub no_source : {p : Part} → Stands cat d at.Wanted p → is_name t ≡ true → place_of t (names d.catalogue.names) ≡ None → wrong cat p t ≡ Some UnfitLiteral
+  pub no_source : {p : Part} → Stands cat d at.Wanted p → is_name t ≡ true → place_of t (source_names d.catalogue) ≡ None → wrong cat p t ≡ Some UnfitLiteral
   no_source s name e = go s.stage s.read
     where
       go : {p : Part} → StageAt cat at.Wanted p → ReadAt cat d p → wrong cat p t ≡ Some UnfitLiteral
       go (wanted_literal h ls) read = told_12 (is_name t) (not (among t cat.names)) (leb 8 (length ls)) false false name (rw (place_none t cat.names (sym (sought read.catalogue) ∙ e)).0 refl)
 
-  module _ (i : ℕ) (found : place_of t (names d.catalogue.names) ≡ Some i) (name : is_name t ≡ true) (m : ℕ) (count : m ≡ length (held d.literals)) where
+  module _ (i : ℕ) (found : place_of t (source_names d.catalogue) ≡ Some i) (name : is_name t ≡ true) (m : ℕ) (count : m ≡ length (held d.literals)) where
     here : described d.catalogue ≡ cat → (i < length cat.names) × (get_or cat.names i [] ≡ t) × (among t cat.names ≡ true) × (number_of t cat.names ≡ i)
     here e = place_some t cat.names i (sym (sought e) ∙ found)
 

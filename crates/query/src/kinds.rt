@@ -2,10 +2,13 @@
 ghost use Rattle.std.specs.Prelude.{◌≡◌, not, length, replicate, Some, None, slice_index_or};
 ghost use Rattle.query.specs.Noted.{noted, other_kind};
 
-// For each variable the kind of the columns in which it stands, or none.
+use crate::record::VARIABLE_MAX;
+
+// For each variable the kind of the columns in which it stands, or none. The names of the variables
+// stay a list of their own, since a query keeps them without kinds.
 #[derive(Clone, Copy)]
 pub struct Kinds {
-    cells: [Option<u8>; 16],
+    cells: [Option<u8>; VARIABLE_MAX],
     ghost room: { length cells ≡ 16 },
 }
 
@@ -14,7 +17,9 @@ impl Kinds {
     pub(crate) fn new() -> Kinds
         ensures none { result.cells ≡ replicate 16 None }
     {
-        Kinds { cells: [None; 16] }
+        Kinds {
+            cells: [None; VARIABLE_MAX],
+        }
     }
 
     // The kind of a variable.

@@ -11,6 +11,6 @@ pub mod term;
 pub mod text;
 mod token;
 
-pub use record::Query;
-pub use term::{Literal, Term};
+pub use record::{HEAD_MAX, LITERAL_MAX, Query, VARIABLE_MAX};
+pub use term::{Literal, TERM_MAX, Term};
 pub use text::each_text_has_one_answer;
