@@ -1,9 +1,11 @@
 -- What stands in the memory after an answer was put at a place.
-use Rattle.std.proofs.Common.{◌≡◌, ℕ, zero, suc, ◌+◌, ◌-◌, ◌*◌, ◌≤◌, List, [], ◌∷◌, ◌++◌, length, take, drop, sym, refl, ap, ◌∙◌, append_assoc, arith, length-append, length-drop}
+use Rattle.std.proofs.Common.{◌≡◌, ℕ, zero, suc, ◌+◌, ◌-◌, ◌*◌, ◌≤◌, List, [], ◌∷◌, ◌++◌, length, take, drop, sym, refl, ap, ◌∙◌, append_assoc, zero-add, mul-suc, arith, length-append, length-drop, take-append-drop}
 use lib.Seq.{paste}
-use Rattle.std.proofs.lemmas.List.{take_at, drop_at, drop-drop, take-take, take-append-le, length-take-le}
+use Rattle.std.proofs.lemmas.List.{take_at, drop_at, drop-drop, take-take, take-append-le, drop-append-le, length-take-le}
 use borrow.Rule.Slice.PartMut.{put_mid}
 use Rattle.std.specs.List.{insert}
+use Rattle.source.specs.Rows.{rows_in}
+use Rattle.source.proofs.Chunks.{length_rows_in}
 use Rattle.listing.specs.Answers.{answers}
 
 -- what a move by four and a write at the gap leave
@@ -23,45 +25,44 @@ moved m now ys answer a e le room is same =
     ∙ (ap (λ (l : List ℕ). take a m ++ (answer ++ l)) rest
     ∙ ap (λ (k : ℕ). take a m ++ (answer ++ (mid ++ drop k m))) end))
 
--- answers in memory of which only what follows them changed
-same_answers : (count : ℕ) (m rest : List ℕ) → 4 * count ≤ length m → answers count (take (4 * count) m ++ rest) ≡ answers count m
-same_answers zero m rest h = refl
-same_answers (suc count) [] rest h = absurd (omega arith)
-same_answers (suc count) (a ∷ []) rest h = absurd (omega arith)
-same_answers (suc count) (a ∷ b ∷ []) rest h = absurd (omega arith)
-same_answers (suc count) (a ∷ b ∷ d ∷ []) rest h = absurd (omega arith)
-same_answers (suc count) (a ∷ b ∷ d ∷ g ∷ m) rest h =
-    let e : 4 * suc count ≡ suc (suc (suc (suc (4 * count)))) = omega arith in
-    ap (λ (n : ℕ). answers (suc count) (take n (a ∷ b ∷ d ∷ g ∷ m) ++ rest)) e
-    ∙ ap (λ (l : List (List ℕ)). (a ∷ b ∷ d ∷ g ∷ []) ∷ l) (same_answers count m rest (omega arith))
+-- rows whose values stand behind those of others
+rows_behind : (columns first rest : ℕ) (front back : List ℕ) → length front ≡ columns * first → rows_in columns (first + rest) (front ++ back) ≡ rows_in columns first front ++ rows_in columns rest back
+rows_behind columns zero rest [] back long = rw zero-add refl
+rows_behind columns zero rest (v ∷ front) back long = absurd (omega arith)
+rows_behind columns (suc first) rest front back long =
+    let next : suc first + rest ≡ suc (first + rest) = omega arith in
+    let fits : columns ≤ length front = omega (arith, mul-suc columns first) in
+    rw (next, take-append-le columns front back fits, drop-append-le columns front back fits) (ap (λ (rows : List (List ℕ)). take columns front ∷ rows) (rows_behind columns first rest (drop columns front) back (omega (arith, mul-suc columns first, length-drop columns front))))
+
+-- rows are the same whatever stands behind their values
+rows_same : (columns count : ℕ) (front back other : List ℕ) → length front ≡ columns * count → rows_in columns count (front ++ back) ≡ rows_in columns count (front ++ other)
+rows_same columns count front back other long =
+    let none : count + 0 ≡ count = omega arith in
+    ap (λ (n : ℕ). rows_in columns n (front ++ back)) (sym none) ∙ (rows_behind columns count 0 front back long ∙ (sym (rows_behind columns count 0 front other long) ∙ ap (λ (n : ℕ). rows_in columns n (front ++ other)) none))
 
 -- the memory with an answer put at a place before the last ones
 abbrev with_answer : List ℕ → ℕ → ℕ → List ℕ → List ℕ
 with_answer m count place answer = take (4 * place) m ++ (answer ++ (take (4 * count - 4 * place) (drop (4 * place) m) ++ drop (4 * count + 4) m))
 
 answers_with : (place count : ℕ) (m answer : List ℕ) → length answer ≡ 4 → place ≤ count → 4 * count + 4 ≤ length m → answers (suc count) (with_answer m count place answer) ≡ insert (answers count m) place answer
-answers_with zero count m answer four le room =
-    let first : take 4 (answer ++ (take (4 * count) m ++ drop (4 * count + 4) m)) ≡ answer = take_at answer _ 4 four in
-    let rest : drop 4 (answer ++ (take (4 * count) m ++ drop (4 * count + 4) m)) ≡ take (4 * count) m ++ drop (4 * count + 4) m = drop_at answer _ 4 four in
-    let n : 4 * count - 4 * 0 ≡ 4 * count = omega arith in
-    ap (λ (k : ℕ). answers (suc count) (answer ++ (take k m ++ drop (4 * count + 4) m))) n
-    ∙ (ap (λ (l : List ℕ). l ∷ answers count (drop 4 (answer ++ (take (4 * count) m ++ drop (4 * count + 4) m)))) first
-    ∙ (ap (λ (l : List ℕ). answer ∷ answers count l) rest
-    ∙ ap (λ (l : List (List ℕ)). answer ∷ l) (same_answers count m (drop (4 * count + 4) m) (omega arith))))
-answers_with (suc place) zero m answer four le room = absurd (omega arith)
-answers_with (suc place) (suc count) [] answer four le room = absurd (omega arith)
-answers_with (suc place) (suc count) (a ∷ []) answer four le room = absurd (omega arith)
-answers_with (suc place) (suc count) (a ∷ b ∷ []) answer four le room = absurd (omega arith)
-answers_with (suc place) (suc count) (a ∷ b ∷ d ∷ []) answer four le room = absurd (omega arith)
-answers_with (suc place) (suc count) (a ∷ b ∷ d ∷ g ∷ m) answer four le room =
-    let p : 4 * suc place ≡ suc (suc (suc (suc (4 * place)))) = omega arith in
-    let n : 4 * suc count - 4 * suc place ≡ 4 * count - 4 * place = omega arith in
-    let e : 4 * suc count + 4 ≡ suc (suc (suc (suc (4 * count + 4)))) = omega arith in
-    let whole : List ℕ = a ∷ b ∷ d ∷ g ∷ m in
-    let one = ap (λ (k : ℕ). answers (suc (suc count)) (take (4 * suc place) whole ++ (answer ++ (take k (drop (4 * suc place) whole) ++ drop (4 * suc count + 4) whole)))) n in
-    let two = ap (λ (k : ℕ). answers (suc (suc count)) (take (4 * suc place) whole ++ (answer ++ (take (4 * count - 4 * place) (drop (4 * suc place) whole) ++ drop k whole)))) e in
-    let three = ap (λ (k : ℕ). answers (suc (suc count)) (take k whole ++ (answer ++ (take (4 * count - 4 * place) (drop k whole) ++ drop (4 * count + 4) m)))) p in
-    one ∙ (two ∙ (three ∙ ap (λ (l : List (List ℕ)). (a ∷ b ∷ d ∷ g ∷ []) ∷ l) (answers_with place count m answer four (omega arith) (omega arith))))
+answers_with place count m answer four le room =
+    let rest : ℕ = count - place in
+    let front : List ℕ = take (4 * place) m in
+    let back : List ℕ = drop (4 * place) m in
+    let mid : List ℕ = take (4 * count - 4 * place) back in
+    let tail : List ℕ = drop (4 * count + 4) m in
+    let all : count ≡ place + rest = omega arith in
+    let more : suc count ≡ place + suc rest = omega arith in
+    let lf : length front ≡ 4 * place = length-take-le (4 * place) m (omega arith) in
+    let n : 4 * count - 4 * place ≡ 4 * rest = omega arith in
+    let lm : length mid ≡ 4 * rest = length-take-le (4 * count - 4 * place) back (omega (arith, length-drop (4 * place) m)) ∙ n in
+    let rows : answers count m ≡ answers place front ++ answers rest back =
+    ap (answers count) (sym (take-append-drop (4 * place) m)) ∙ (ap (λ (k : ℕ). answers k (front ++ back)) all ∙ rows_behind 4 place rest front back lf) in
+    let others : answers rest (mid ++ tail) ≡ answers rest back = rows_same 4 rest mid tail (drop (4 * count - 4 * place) back) lm ∙ ap (answers rest) (take-append-drop (4 * count - 4 * place) back) in
+    let behind : answers (suc rest) (answer ++ (mid ++ tail)) ≡ answer ∷ answers rest back = rw (take_at answer (mid ++ tail) 4 four, drop_at answer (mid ++ tail) 4 four, others) refl in
+    let long = length_rows_in 4 place front in
+    let split : insert (answers count m) place answer ≡ answers place front ++ answer ∷ answers rest back = rw (rows, take_at (answers place front) (answers rest back) place long, drop_at (answers place front) (answers rest back) place long) refl in
+    ap (λ (k : ℕ). answers k (with_answer m count place answer)) more ∙ (rows_behind 4 place (suc rest) front (answer ++ (mid ++ tail)) lf ∙ (ap (λ (z : List (List ℕ)). answers place front ++ z) behind ∙ sym split))
 
 module _ (m now ys answer : List ℕ) (count place : ℕ) (le : place ≤ count) (room : 4 * count + 4 ≤ length m) (four : length answer ≡ 4) (is : now ≡ paste m (4 * place + 4) (drop (4 * place) m) (4 * count - 4 * place)) (same : ys ≡ answer) where
   abbrev left : List ℕ
