@@ -22,14 +22,17 @@ leads_inserted zero r rows row inside l b = b
 leads_inserted (suc place) r [] row inside l b = absurd (omega arith)
 leads_inserted (suc place) r (q ∷ rows) row inside l b = l
 
-pub ascending_inserted : (place : ℕ) (rows : List (List ℕ)) (row : List ℕ) → place ≤ length rows → ascending rows ≡ true → ((k : ℕ) → k < place → before (get_or rows k []) row ≡ true) → leads row (drop place rows) ≡ true → ascending (insert rows place row) ≡ true
-ascending_inserted zero rows row inside asc above below = and_from (leads row rows) (ascending rows) below asc
-ascending_inserted (suc place) [] row inside asc above below = absurd (omega arith)
-ascending_inserted (suc place) (r ∷ rows) row inside asc above below =
+in_tail_belongs : (place : ℕ) (r : List ℕ) (rows : List (List ℕ)) (row : List ℕ) → Belongs (r ∷ rows) row (suc place) → Belongs rows row place
+in_tail_belongs place r rows row b = record { inside = omega (arith, b.inside); above = λ k h. b.above (suc k) (omega arith); below = b.below }
+
+pub ascending_inserted : (place : ℕ) (rows : List (List ℕ)) (row : List ℕ) → ascending rows ≡ true → Belongs rows row place → ascending (insert rows place row) ≡ true
+ascending_inserted zero rows row asc b = and_from (leads row rows) (ascending rows) b.below asc
+ascending_inserted (suc place) [] row asc b = absurd (omega (arith, b.inside))
+ascending_inserted (suc place) (r ∷ rows) row asc b =
     let parts = and_parts (leads r rows) (ascending rows) asc in
     and_from (leads r (insert rows place row)) (ascending (insert rows place row))
-    (leads_inserted place r rows row (omega arith) parts.0 (above 0 (omega arith)))
-    (ascending_inserted place rows row (omega arith) parts.1 (λ k h. above (suc k) (omega arith)) below)
+    (leads_inserted place r rows row (omega (arith, b.inside)) parts.0 (b.above 0 (omega arith)))
+    (ascending_inserted place rows row parts.1 (in_tail_belongs place r rows row b))
 
 not_from_head : (rows : List (List ℕ)) (row : List ℕ) → ascending rows ≡ true → leads row rows ≡ true → is_in row rows ≡ true → ⊥
 not_from_head [] row asc l i = false≢true i
@@ -41,16 +44,14 @@ not_from_head (r ∷ rows) row asc l i = go (or_cases (same row r) (is_in row ro
 
 -- a row that belongs at a place is none of the rows
 pub absent : (place : ℕ) (rows : List (List ℕ)) (row : List ℕ) → ascending rows ≡ true → Belongs rows row place → is_in row rows ≡ false
-absent place rows row asc b = false_from_ne_true (is_in row rows) (elsewhere place rows asc b.above b.below)
+absent zero rows row asc b = false_from_ne_true (is_in row rows) (not_from_head rows row asc b.below)
+absent (suc place) [] row asc b = refl
+absent (suc place) (r ∷ rows) row asc b = or_from_false (same row r) (is_in row rows)
+    (false_from_ne_true (same row r) (λ e. before_irrefl row (subst (λ z. before z row ≡ true) (sym (same_eq row r e)) (b.above 0 (omega arith)))))
+    (absent place rows row (ascending_tail r rows asc) (in_tail_belongs place r rows row b))
   where
-    elsewhere : (place : ℕ) (rows : List (List ℕ)) → ascending rows ≡ true → ((k : ℕ) → k < place → before (get_or rows k []) row ≡ true) → leads row (drop place rows) ≡ true → is_in row rows ≡ true → ⊥
-    elsewhere zero rows asc above below i = not_from_head rows row asc below i
-    elsewhere (suc place) [] asc above below i = false≢true i
-    elsewhere (suc place) (r ∷ rows) asc above below i = go (or_cases (same row r) (is_in row rows) i) (elsewhere place rows (ascending_tail r rows asc) (λ k h. above (suc k) (omega arith)) below)
-      where
-        go : (same row r ≡ true) ⊎ (is_in row rows ≡ true) → (is_in row rows ≡ true → ⊥) → ⊥
-        go (inl e) rest = before_irrefl row (subst (λ z. before z row ≡ true) (sym (same_eq row r e)) (above 0 (omega arith)))
-        go (inr m) rest = rest m
+    or_from_false : (s t : Bool) → s ≡ false → t ≡ false → (s || t) ≡ false
+    or_from_false s t e f = rw (e, f) refl
 
 pub in_at : (rows : List (List ℕ)) (k : ℕ) (row : List ℕ) → k < length rows → get_or rows k [] ≡ row → is_in row rows ≡ true
 in_at [] k row h e = absurd (omega arith)

@@ -1,13 +1,13 @@
 -- Giving answers to a list, one after another.
-use Rattle.std.proofs.Common.{◌≡◌, ℕ, zero, suc, ◌+◌, ◌-◌, ◌*◌, ◌<◌, ◌≤◌, true, false, ◌⊎◌, List, [], ◌∷◌, length, get_or, drop, sym, refl, ap, ◌∙◌, subst, inl, inr, arith}
+use Rattle.std.proofs.Common.{◌≡◌, ℕ, zero, suc, ◌+◌, ◌-◌, ◌*◌, ◌<◌, ◌≤◌, true, false, ◌⊎◌, List, [], ◌∷◌, get_or, drop, sym, refl, ap, ◌∙◌, subst, inl, inr, arith}
 use Rattle.std.proofs.lemmas.Bool.{or_cases, or_left, or_right, true≢false, cases_Bool}
 use Rattle.std.specs.List.{insert}
 use Rattle.std.proofs.lemmas.List.{drop-drop}
 use Rattle.std.proofs.lemmas.List.Edits.{length-insert}
-use Rattle.source.specs.Rows.{same, before, is_in, leads, ascending}
+use Rattle.source.specs.Rows.{same, before, is_in, ascending}
 use Rattle.source.proofs.Rows.{same_eq, eq_same, ascending_tail}
 use Rattle.source.proofs.Chunks.{length_rows_in}
-use Rattle.listing.specs.Answers.{answers, Listing, listed, Added, listed_before, listed_now, no_place}
+use Rattle.listing.specs.Answers.{answers, Belongs, Listing, listed, Added, listed_before, listed_now, no_place}
 use Rattle.listing.specs.Gathering.{TooMany, Gathered}
 use Rattle.listing.proofs.Ascents.{in_inserted, ascending_inserted}
 use Rattle.listing.proofs.Comparing.{one_before}
@@ -83,25 +83,19 @@ module _ (a b c : Listing) (P Q R : List ℕ → Type 0) (f : (row : List ℕ) �
   }
 
 -- a row that is not among ascending rows belongs somewhere between them
-record Place (rows : List (List ℕ)) (row : List ℕ) : Type 0 where
-  at : ℕ
-  inside : at ≤ length rows
-  above : (k : ℕ) → k < at → before (get_or rows k []) row ≡ true
-  below : leads row (drop at rows) ≡ true
-
-find_place : (rows : List (List ℕ)) (row : List ℕ) → ascending rows ≡ true → (is_in row rows ≡ true → ⊥) → Place rows row
-find_place [] row asc out = record { at = 0; inside = omega arith; above = λ k h. absurd (omega arith); below = refl }
+find_place : (rows : List (List ℕ)) (row : List ℕ) → ascending rows ≡ true → (is_in row rows ≡ true → ⊥) → (place : ℕ) × Belongs rows row place
+find_place [] row asc out = (0, record { inside = omega arith; above = λ k h. absurd (omega arith); below = refl })
 find_place (r ∷ rs) row asc out = go (cases_Bool (before row r)) (find_place rs row (ascending_tail r rs asc) (λ i. out (or_right (same row r) (is_in row rs) i)))
   where
-    next : before r row ≡ true → (p : Place rs row) → (k : ℕ) → k < suc p.at → before (get_or (r ∷ rs) k []) row ≡ true
-    next b p zero h = b
-    next b p (suc k) h = p.above k (omega arith)
+    next : (place : ℕ) → before r row ≡ true → Belongs rs row place → (k : ℕ) → k < suc place → before (get_or (r ∷ rs) k []) row ≡ true
+    next place b p zero h = b
+    next place b p (suc k) h = p.above k (omega arith)
 
-    go : (before row r ≡ true) ⊎ (before row r ≡ false) → Place rs row → Place (r ∷ rs) row
-    go (inl b) p = record { at = 0; inside = omega arith; above = λ k h. absurd (omega arith); below = b }
+    go : (before row r ≡ true) ⊎ (before row r ≡ false) → ((place : ℕ) × Belongs rs row place) → (place : ℕ) × Belongs (r ∷ rs) row place
+    go (inl b) p = (0, record { inside = omega arith; above = λ k h. absurd (omega arith); below = b })
     go (inr n) p =
         let b : before r row ≡ true = one_before r row (λ s. out (or_left (same row r) (is_in row rs) (eq_same row r (sym (same_eq r row s))))) (λ c. true≢false (sym c ∙ n)) in
-        record { at = suc p.at; inside = (let i = p.inside in omega arith); above = next b p; below = p.below }
+        (suc p.0, record { inside = (let i = p.1.inside in omega arith); above = next p.0 b p.1; below = p.1.below })
 
 -- one answer was given
 pub one_gathered : (answer : List ℕ) (old new : Listing) → new.count ≤ old.places → ascending (listed old) ≡ true → Added answer old new → Gathered old new (λ row. row ≡ answer)
@@ -143,13 +137,13 @@ one_gathered answer old new within asc (no_place absent full same_places same_me
     rows_same : listed new ≡ listed old
     rows_same = ap (λ (n : ℕ). answers n new.memory) same_count ∙ ap (answers old.count) same_memory
 
-    place : Place (listed old) answer
+    place : (at : ℕ) × Belongs (listed old) answer at
     place = find_place (listed old) answer asc (λ i. true≢false (sym i ∙ absent))
 
     one_too_many : TooMany old.places (listed old) (λ row. row ≡ answer)
     one_too_many = record {
-      rows = insert (listed old) place.at answer;
-      many = length-insert (listed old) place.at answer place.inside ∙ ap (λ (n : ℕ). n + 1) (length_rows_in 4 old.count old.memory ∙ full);
-      ascends = ascending_inserted place.at (listed old) answer place.inside asc place.above place.below;
-      each = λ row x. elim (or_cases (same row answer) (is_in row (listed old)) (sym (in_inserted place.at (listed old) answer row) ∙ x)) [ inl e ↦ inr (same_eq row answer e) | inr m ↦ inl m ];
+      rows = insert (listed old) place.0 answer;
+      many = length-insert (listed old) place.0 answer place.1.inside ∙ ap (λ (n : ℕ). n + 1) (length_rows_in 4 old.count old.memory ∙ full);
+      ascends = ascending_inserted place.0 (listed old) answer asc place.1;
+      each = λ row x. elim (or_cases (same row answer) (is_in row (listed old)) (sym (in_inserted place.0 (listed old) answer row) ∙ x)) [ inl e ↦ inr (same_eq row answer e) | inr m ↦ inl m ];
     }

@@ -10,9 +10,9 @@ ghost use Rattle.listing.specs.Answers.{answers, places_in, cleared, count_liste
 // The most answers that are listed.
 pub const MOST_ANSWERS: usize = 1024;
 
-// Answers in lent memory: how many have a place there, and how many are listed; nothing once one
-// was given that found no place. The memory is kept as numbers and not as cells of four: the library
-// says nothing of what a slice ends as that was cut by `as_chunks_mut`, and its lender is to know.
+// Answers in lent memory: how many places it has for them, and how many are listed, or nothing once
+// one found no place. The memory stays a slice of numbers: of a slice that `as_chunks_mut` cuts into
+// cells, the library does not say what it ends as, and the lender has to know.
 pub struct AnswerList<'m> {
     memory: &'m mut [u32],
     places: usize,
