@@ -7,9 +7,11 @@ use Rattle.layers.specs.declared.entry.Entry.{Entry}
 use Rattle.layers.specs.Memory.{kept, is_for, recalled}
 
 module _ (marks : List Mark) (inputs : List ℕ) where
+  -- the rows of an entry, if there is one
   abbrev rows_of : Option Entry → Option (List (List ℕ))
   rows_of o = option_map (λ e. (kept e).rows) o
 
+  -- the first entry for the inputs, under the marks
   abbrev first_for : List Entry → Option Entry
   first_for entries = find (λ e. is_for (kept e) marks inputs) entries
 

@@ -8,7 +8,7 @@ use faults::{Fault, Refusal};
 use source::{Mark, Source, admit};
 
 // The most units that a quota holds.
-pub const UNITS_MAX: u32 = 1000000;
+pub const UNITS_MAX: u32 = 1_000_000;
 
 // A layer that lets as many calls be answered as it has units.
 #[derive(Drop)]

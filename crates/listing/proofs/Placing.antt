@@ -65,6 +65,7 @@ answers_with place count m answer four le room =
     ap (λ (k : ℕ). answers k (with_answer m count place answer)) more ∙ (rows_behind 4 place (suc rest) front (answer ++ (mid ++ tail)) lf ∙ (ap (λ (z : List (List ℕ)). answers place front ++ z) behind ∙ sym split))
 
 module _ (m now ys answer : List ℕ) (count place : ℕ) (le : place ≤ count) (room : 4 * count + 4 ≤ length m) (four : length answer ≡ 4) (is : now ≡ paste m (4 * place + 4) (drop (4 * place) m) (4 * count - 4 * place)) (same : ys ≡ answer) where
+  -- what the memory is left as
   abbrev left : List ℕ
   left = put_mid (4 * place) (4 * place + 4 - 4 * place) now ys
 

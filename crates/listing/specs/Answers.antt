@@ -22,6 +22,7 @@ pub record Listing : Type 0 where
   pub count : ℕ
   pub crowded : Bool
 
+-- the list over this memory, of which so many answers are listed, or nothing is said once one found no place
 abbrev pub listing : ℕ → List ℕ → Option ℕ → Listing
 listing places memory listed = record { places = places; memory = memory; count = count_listed places listed; crowded = is_none listed }
 

@@ -4,6 +4,7 @@ use Rattle.source.specs.Rows.{is_in, ascending}
 use Rattle.listing.specs.declared.AnswerList.{AnswerList}
 use Rattle.listing.specs.Answers.{Listing, listing, listed}
 
+-- a list as it stands
 abbrev pub listing_of : AnswerList → Listing
 listing_of l = listing l.places l.memory.now l.listed
 
