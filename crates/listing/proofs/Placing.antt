@@ -1,6 +1,8 @@
 -- What stands in the memory after an answer was put at a place.
-use Rattle.std.proofs.Common.{◌≡◌, ℕ, zero, suc, ◌+◌, ◌-◌, ◌*◌, ◌≤◌, List, [], ◌∷◌, ◌++◌, length, take, drop, sym, refl, ap, ◌∙◌, append_assoc, zero-add, mul-suc, arith, length-append, length-drop, take-append-drop}
+use Rattle.std.proofs.Common.{◌≡◌, ℕ, zero, suc, ◌+◌, ◌-◌, ◌*◌, ◌≤◌, List, [], ◌∷◌, ◌++◌, length, take, drop, sym, refl, ap, ◌∙◌, append_assoc, zero-add, mul-suc, arith, length-drop, take-append-drop}
 use lib.Seq.{paste}
+use Rattle.std.proofs.lemmas.List.Edits.{drop-paste, length-paste}
+use Rattle.std.proofs.lemmas.Slice.{drop-put_mid}
 use Rattle.std.proofs.lemmas.List.{take_at, drop_at, drop-drop, take-take, take-append-le, drop-append-le, length-take-le}
 use borrow.Rule.Slice.PartMut.{put_mid}
 use Rattle.std.specs.List.{insert}
@@ -80,15 +82,8 @@ module _ (m now ys answer : List ℕ) (count place : ℕ) (le : place ≤ count)
   -- the numbers behind the answers stay
   pub put_behind : drop (4 * (count + 1)) left ≡ drop (4 * (count + 1)) m
   put_behind =
-      let mid : List ℕ = take (4 * count - 4 * place) (drop (4 * place) m) in
-      let tail : List ℕ = drop (4 * count + 4) m in
-      let front : List ℕ = take (4 * place) m in
-      let la : length front ≡ 4 * place = length-take-le (4 * place) m (omega arith) in
-      let lm : length mid ≡ 4 * count - 4 * place = length-take-le (4 * count - 4 * place) (drop (4 * place) m) (omega (arith, length-drop (4 * place) m)) in
-      let long : length (front ++ (answer ++ mid)) ≡ 4 * count + 4 = omega (arith, la, lm, four, length-append front (answer ++ mid), length-append answer mid) in
-      let parts : with_answer m count place answer ≡ (front ++ (answer ++ mid)) ++ tail =
-      ap (λ (l : List ℕ). front ++ l) (sym (append_assoc answer mid tail)) ∙ sym (append_assoc front (answer ++ mid) tail) in
-      let n : 4 * (count + 1) ≡ 4 * count + 4 = omega arith in
-      ap (λ (k : ℕ). drop k left) n
-      ∙ (ap (drop (4 * count + 4)) (left_is ∙ parts)
-      ∙ (drop_at (front ++ (answer ++ mid)) tail (4 * count + 4) long ∙ ap (λ (k : ℕ). drop k m) (sym n)))
+      let moved_on : length (drop (4 * place) m) ≡ length m - 4 * place = length-drop (4 * place) m in
+      let long : length now ≡ length m = ap length is ∙ length-paste m (4 * place + 4) (drop (4 * place) m) (4 * count - 4 * place) (omega arith) (omega arith) in
+      let end : 4 * (count + 1) ≡ 4 * place + 4 + (4 * count - 4 * place) = omega arith in
+      drop-put_mid (4 * place) (4 * place + 4 - 4 * place) now ys (4 * (count + 1)) (omega arith) (omega arith) (ap length same ∙ (four ∙ omega arith))
+      ∙ (ap (drop (4 * (count + 1))) is ∙ rw end (drop-paste m (4 * place + 4) (drop (4 * place) m) (4 * count - 4 * place) (omega arith) (omega arith)))
