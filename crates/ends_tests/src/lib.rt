@@ -1,6 +1,7 @@
 // Examples of the two ends, proved to be safe and then run.
 #![tactic(auto)]
 
+pub mod crowd;
 #[cfg(test)]
 mod divider;
 #[cfg(test)]

@@ -6,29 +6,26 @@ use std::test::Fail;
 // The recall register of the cabinet.
 const RECALL: [u8; 6] = [2, 1, 1, 0xD1, 0x0F, 5];
 
-// The number of the refusal, or 0.
-fn number<S: Source>(source: &mut S, inputs: &[u32], memory: &mut [u32]) -> u8 {
-    match source.call(inputs, memory) {
-        Ok(_) => 0,
-        Err(fault) => fault.refusal.number(),
-    }
+// The number with which a call is refused, if it is.
+fn refusal<S: Source>(source: &mut S, inputs: &[u32], memory: &mut [u32]) -> Option<u8> {
+    source
+        .call(inputs, memory)
+        .err()
+        .map(|fault| fault.refusal.number())
 }
 
 // How many rows a call answers.
 fn count<S: Source>(source: &mut S, inputs: &[u32], memory: &mut [u32]) -> Result<usize, Fail> {
-    match source.call(inputs, memory) {
-        Ok(count) => Ok(count),
-        Err(_) => Err(Fail::new("refused")),
-    }
+    source
+        .call(inputs, memory)
+        .map_err(|_| Fail::new("refused"))
 }
 
 // A register of this file.
 fn opened(bytes: &[u8]) -> Result<Register, Fail> {
     let mut register = Register::new();
-    match register.open(bytes) {
-        Ok(_) => Ok(register),
-        Err(_) => Err(Fail::new("not opened")),
-    }
+    register.open(bytes).map_err(|_| Fail::new("not opened"))?;
+    Ok(register)
 }
 
 #[test]
@@ -58,10 +55,10 @@ fn the_answer_memory_has_256_numbers(rt: HostRuntime) -> Result<(), Fail> {
     let mut register = opened(&RECALL)?;
     let mut short = [9; 255];
     let mut enough = [9; ANSWER_ROOM];
-    assert_eq!(rt; number(&mut register, &[2001], &mut short), 21);
-    assert_eq!(rt; number(&mut register, &[], &mut short), 21);
+    assert_eq!(rt; refusal(&mut register, &[2001], &mut short), Some(21));
+    assert_eq!(rt; refusal(&mut register, &[], &mut short), Some(21));
     assert_eq!(rt; short[0], 9);
-    assert_eq!(rt; number(&mut register, &[2001], &mut enough), 0);
+    assert_eq!(rt; refusal(&mut register, &[2001], &mut enough), None);
     Ok(())
 }
 
@@ -69,8 +66,8 @@ fn the_answer_memory_has_256_numbers(rt: HostRuntime) -> Result<(), Fail> {
 fn there_is_an_input_for_each_given_column(rt: HostRuntime) -> Result<(), Fail> {
     let mut register = opened(&RECALL)?;
     let mut memory = [9; ANSWER_ROOM];
-    assert_eq!(rt; number(&mut register, &[], &mut memory), 23);
-    assert_eq!(rt; number(&mut register, &[2001, 5], &mut memory), 23);
+    assert_eq!(rt; refusal(&mut register, &[], &mut memory), Some(23));
+    assert_eq!(rt; refusal(&mut register, &[2001, 5], &mut memory), Some(23));
     assert_eq!(rt; memory[0], 9);
     Ok(())
 }
