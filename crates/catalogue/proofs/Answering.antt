@@ -7,7 +7,7 @@ use Rattle.bounded.proofs.Holding.{length_held}
 use Rattle.lexing.specs.Readers.{Outcome, HasRead}
 use Rattle.lexing.proofs.Holding.{names_length}
 use Rattle.lexing.proofs.Course.{way, one_part, one_refusal, not_both, near, judged, Judged, settled, accepted_so}
-use Rattle.lexing.proofs.Bools.{clash}
+use Rattle.std.proofs.lemmas.Bool.{both_ways}
 use Rattle.catalogue.specs.Sheets.{Line, Part, lines, columns, spaced, kinded, coloned, whole, kinds_in, sheets}
 use Rattle.catalogue.specs.declared.state.Reader.{Reader}
 use Rattle.catalogue.specs.Plain.{entry_columns, all_shaped}
@@ -20,10 +20,10 @@ use Rattle.catalogue.proofs.Laws.{lawful, decoder}
 -- a whole part is made of lines
 lines_of : (p : Part) → whole p ≡ true → (ls : List Line) × (p ≡ lines ls)
 lines_of (lines ls) e = (ls, refl)
-lines_of (columns ls n cs) e = absurd (clash e refl)
-lines_of (spaced ls n cs) e = absurd (clash e refl)
-lines_of (kinded ls n cs k) e = absurd (clash e refl)
-lines_of (coloned ls n cs k) e = absurd (clash e refl)
+lines_of (columns ls n cs) e = absurd (both_ways _ refl e)
+lines_of (spaced ls n cs) e = absurd (both_ways _ refl e)
+lines_of (kinded ls n cs k) e = absurd (both_ways _ refl e)
+lines_of (coloned ls n cs k) e = absurd (both_ways _ refl e)
 
 -- what is read of a whole text
 pub record Whole (text : List ℕ) (r : Reader) : Type 0 where

@@ -1,7 +1,7 @@
 -- The steps of the reader go along with the grammar of catalogues.
 use Rattle.std.proofs.Common.{◌≡◌, ℕ, ◌≤◌, Bool, true, false, cond, not, ◌&&◌, ◌||◌, eqb, ltb, leb, ◌⊎◌, List, [], ◌∷◌, ◌++◌, length, Some, None, sym, refl, ap, ◌∙◌, subst, inl, inr, append_assoc, append-nil, arith, ltb-true, lt-ltb, le-leb, leb-true}
 use borrow.Author.Tests.{not-true}
-use Rattle.std.proofs.lemmas.Bool.{or_cases, or_left, or_right, and_parts}
+use Rattle.std.proofs.lemmas.Bool.{or_cases, or_left, or_right, and_parts, both_ways}
 use Rattle.faults.specs.declared.refusal.Refusal.{Refusal}
 use Rattle.faults.specs.declared.refusal.Refusal.TheVariants.{CatalogueForm, CatalogueLimit, SourceNamedTwice}
 use Rattle.faults.specs.Refusals.{number}
@@ -12,7 +12,7 @@ use Rattle.lexing.specs.Classes.{class}
 use Rattle.lexing.specs.Tokens.{Token, is}
 use Rattle.lexing.specs.Lists.{crowded}
 use Rattle.lexing.specs.Names.{is_name, among}
-use Rattle.lexing.proofs.Bools.{clash, and_0, and_1, is_it, one_of_two}
+use Rattle.lexing.proofs.Bools.{is_it, one_of_two}
 use Rattle.lexing.proofs.Course.{Lawful, Decoder, runs, after}
 use Rattle.catalogue.specs.Sheets.{Column, Line, letter, write_columns, write, some, Named, FormedLine, Formed, Part, lines, columns, spaced, kinded, coloned, shown, GoodLine, Good, whole, marks_in, known, Cause, long_name, ninth_line, named_twice, long_kind, fifth_column, seventeenth_kind, fourth_given, sheets}
 use Rattle.catalogue.specs.Reading.{mark_or_free, fits, next, over, again, refusal, wrong, steps}
@@ -44,7 +44,7 @@ spaces_or_ends cs t e = go (is 32 t) refl e
   where
     go : (b : Bool) → is 32 t ≡ b → (b || (some cs && is 10 t)) ≡ true → (is 32 t ≡ true) ⊎ ((is 32 t ≡ false) × (some cs ≡ true) × (t ≡ 10 ∷ []))
     go true i f = inl i
-    go false i f = inr (i, and_0 (some cs) (is 10 t) f, is_it 10 t (and_1 (some cs) (is 10 t) f))
+    go false i f = inr (i, (and_parts (some cs) (is 10 t) f).0, is_it 10 t ((and_parts (some cs) (is 10 t) f).1))
 
 mark_is : (t : Token) → (is 98 t || is 102 t) ≡ true → letter (mark_or_free t) ≡ t
 mark_is t e = go (one_of_two 98 102 t e)
@@ -155,7 +155,7 @@ ending (coloned ls n cs k) g = (last_mark, rw (some_more cs (record { kind = k; 
 -- what is wrong has a cause, and every cause is found
 over_cause : (p : Part) (t : Token) → over p t ≡ true → Cause p t CatalogueLimit
 over_cause (lines ls) t e = elim (or_cases (ltb 16 (length t)) (leb 8 (length ls)) e) [ inl h ↦ long_name ls t (ltb-true 16 (length t) h) | inr h ↦ ninth_line ls t (leb-true 8 (length ls) h) ]
-over_cause (columns ls n cs) t e = absurd (clash e refl)
+over_cause (columns ls n cs) t e = absurd (both_ways _ refl e)
 over_cause (spaced ls n cs) t e = go (or_cases (leb 4 (length cs)) (crowded t (known ls cs)) e)
   where
     by : (ltb 16 (length t) ≡ true) ⊎ ((not (among t (known ls cs)) && leb 16 (length (known ls cs))) ≡ true) → Cause (spaced ls n cs) t CatalogueLimit
@@ -167,23 +167,23 @@ over_cause (spaced ls n cs) t e = go (or_cases (leb 4 (length cs)) (crowded t (k
     go : (leb 4 (length cs) ≡ true) ⊎ (crowded t (known ls cs) ≡ true) → Cause (spaced ls n cs) t CatalogueLimit
     go (inl h) = fifth_column ls n cs t (leb-true 4 (length cs) h)
     go (inr h) = by (or_cases (ltb 16 (length t)) (not (among t (known ls cs)) && leb 16 (length (known ls cs))) h)
-over_cause (kinded ls n cs k) t e = absurd (clash e refl)
+over_cause (kinded ls n cs k) t e = absurd (both_ways _ refl e)
 over_cause (coloned ls n cs k) t e =
     let z = and_parts (is 98 t) (leb 3 (inputs_of (marks_in cs))) e in
     subst (λ (x : Token). Cause (coloned ls n cs k) x CatalogueLimit) (sym (is_it 98 t z.0)) (fourth_given ls n cs k (leb-true 3 (inputs_of (marks_in cs)) z.1))
 
 again_cause : (p : Part) (t : Token) → again p t ≡ true → Cause p t SourceNamedTwice
 again_cause (lines ls) t e = named_twice ls t e
-again_cause (columns ls n cs) t e = absurd (clash e refl)
-again_cause (spaced ls n cs) t e = absurd (clash e refl)
-again_cause (kinded ls n cs k) t e = absurd (clash e refl)
-again_cause (coloned ls n cs k) t e = absurd (clash e refl)
+again_cause (columns ls n cs) t e = absurd (both_ways _ refl e)
+again_cause (spaced ls n cs) t e = absurd (both_ways _ refl e)
+again_cause (kinded ls n cs k) t e = absurd (both_ways _ refl e)
+again_cause (coloned ls n cs k) t e = absurd (both_ways _ refl e)
 
 found : (p : Part) (t : Token) (r : Refusal) → fits p t ≡ true → wrong p t ≡ Some r → Cause p t r
 found p t r e w = go (fits p t) (over p t) (again p t) e refl refl w
   where
     go : (a b c : Bool) → a ≡ true → over p t ≡ b → again p t ≡ c → refusal a b c ≡ Some r → Cause p t r
-    go false b c x y z k = absurd (clash x refl)
+    go false b c x y z k = absurd (both_ways _ refl x)
     go true true c x y z k = let q : CatalogueLimit ≡ r = cc in subst (Cause p t) q (over_cause p t y)
     go true false true x y z k = let q : SourceNamedTwice ≡ r = cc in subst (Cause p t) q (again_cause p t z)
     go true false false x y z k = absurd (let u : ◌≡◌ {A = ℕ} 0 1 = cc in omega arith)

@@ -9,7 +9,7 @@ use Rattle.lexing.specs.Flaws.{first_flaw, in_time}
 use Rattle.lexing.specs.Tokens.{Token, tokens, Cut, Placed, placed, sieved, words}
 use Rattle.lexing.specs.Readers.{Steps, Outcome, flaw, step, going, from, with_length, piece}
 use Rattle.lexing.specs.Grammars.{Grammar, read_of, Whole, Begins, Faulty, unexpected, unfinished, caused, too_long, NotAbove, Refused, Accepted}
-use Rattle.lexing.proofs.Bools.{which, clash, and_0, and_1}
+use Rattle.std.proofs.lemmas.Bool.{and_parts, both_ways, cases_Bool}
 use Rattle.lexing.proofs.Lexing.{Solid, solid_tokens, size, size_tokens}
 
 -- all of the tokens fit, one after the other, and the part behind them
@@ -106,15 +106,15 @@ module _ (g : Grammar) (c : Steps g) (law : Lawful g c) where
 
   run_front : (p : g.Part) (xs ys : List Token) → run p (xs ++ ys) ≡ true → run p xs ≡ true
   run_front p [] ys e = refl
-  run_front p (t ∷ xs) ys e = rw (and_0 (c.fits p t) (run (c.next p t) (xs ++ ys)) e) (run_front (c.next p t) xs ys (and_1 (c.fits p t) (run (c.next p t) (xs ++ ys)) e))
+  run_front p (t ∷ xs) ys e = rw ((and_parts (c.fits p t) (run (c.next p t) (xs ++ ys)) e).0) (run_front (c.next p t) xs ys ((and_parts (c.fits p t) (run (c.next p t) (xs ++ ys)) e).1))
 
   good_past : (p : g.Part) (ts : List Token) → g.Good p → run p ts ≡ true → g.Good (past p ts)
   good_past p [] h e = h
-  good_past p (t ∷ ts) h e = good_past (c.next p t) ts (law.good_next p t h (and_0 (c.fits p t) (run (c.next p t) ts) e)) (and_1 (c.fits p t) (run (c.next p t) ts) e)
+  good_past p (t ∷ ts) h e = good_past (c.next p t) ts (law.good_next p t h ((and_parts (c.fits p t) (run (c.next p t) ts) e).0)) ((and_parts (c.fits p t) (run (c.next p t) ts) e).1)
 
   shown_past : (p : g.Part) (ts rest : List Token) → run p ts ≡ true → g.shown (past p ts) rest ≡ g.shown p (ts ++ rest)
   shown_past p [] rest e = refl
-  shown_past p (t ∷ ts) rest e = shown_past (c.next p t) ts rest (and_1 (c.fits p t) (run (c.next p t) ts) e) ∙ law.shown_next p t (ts ++ rest) (and_0 (c.fits p t) (run (c.next p t) ts) e)
+  shown_past p (t ∷ ts) rest e = shown_past (c.next p t) ts rest ((and_parts (c.fits p t) (run (c.next p t) ts) e).1) ∙ law.shown_next p t (ts ++ rest) ((and_parts (c.fits p t) (run (c.next p t) ts) e).0)
 
   begins : Front c.start []
   begins = (law.good_start, sym law.shown_start)
@@ -126,9 +126,8 @@ module _ (g : Grammar) (c : Steps g) (law : Lawful g c) where
   run_whole ts w = ap (run c.start) w.written ∙ run_along w.part [] w.good
 
   stuck : (p : g.Part) (f : List Token) (t : Token) → Front p f → c.fits p t ≡ false → Begins g (f ++ t ∷ []) → ⊥
-  stuck p f t h e b = clash
+  stuck p f t h e b = both_ways (run p (t ∷ [])) (rw e refl)
       (sym (run_along p (t ∷ []) h.0) ∙ ap (run c.start) (law.shown_front p (t ∷ []) ∙ ap (λ (l : List Token). l ++ t ∷ []) (sym h.1)) ∙ run_front c.start (f ++ t ∷ []) b.rest (run_whole _ b.ends))
-      (rw e refl)
 
   opens : (p : g.Part) (f : List Token) → Front p f → Begins g f
   opens p f h =
@@ -147,7 +146,7 @@ module _ (g : Grammar) (c : Steps g) (law : Lawful g c) where
   one p q f h k = sym (past_along p [] h.0) ∙ ap (past c.start) (sym h.1 ∙ k.1) ∙ past_along q [] k.0
 
   goes_on : (p : g.Part) (f : List Token) → Front p f → g.whole p ≡ false → Whole g f → ⊥
-  goes_on p f h e w = clash (subst (λ (q : g.Part). g.whole q ≡ true) (one w.part p f (w.good, w.written) h) w.complete) e
+  goes_on p f h e w = both_ways _ e (subst (λ (q : g.Part). g.whole q ≡ true) (one w.part p f (w.good, w.written) h) w.complete)
 
   module _ (text : List ℕ) where
     abbrev end : ℕ
@@ -166,7 +165,7 @@ module _ (g : Grammar) (c : Steps g) (law : Lawful g c) where
         go true e k = (k, e)
         go false e k = unfinished (goes_on p (words (read_of g text)) k e)
     sound p front (t ∷ rest) s h =
-        go (c.wrong p t.token) refl (which (c.fits p t.token))
+        go (c.wrong p t.token) refl (cases_Bool (c.fits p t.token))
         (λ k. sound (c.next p t.token) (front ++ t ∷ []) rest (s ∙ sym (append_assoc front (t ∷ []) rest)) (subst (Front (c.next p t.token)) (sym (words_push front t)) k))
       where
         go : (o : Option Refusal) → c.wrong p t.token ≡ o → (c.fits p t.token ≡ true) ⊎ (c.fits p t.token ≡ false) →
@@ -216,14 +215,14 @@ module _ (g : Grammar) (c : Steps g) (law : Lawful g c) where
     below_all : Rising (read_of g text) end → (m : Refusal) (q : ℕ) → Faulty g text m q → Lowest way m q ⊎ Long m q
     below_all r m q (unexpected front t rest e nv) =
         inl (subst (λ (l : List Placed). Lowest (going g c end c.start l) g.form t.place) (sym e)
-        (lowest c.start front (t ∷ rest) g.form t.place (subst (λ (l : List Placed). Rising l end) e r) refl (λ k. by (past c.start (words front)) (front_past front k) (which (c.fits (past c.start (words front)) t.token)))))
+        (lowest c.start front (t ∷ rest) g.form t.place (subst (λ (l : List Placed). Rising l end) e r) refl (λ k. by (past c.start (words front)) (front_past front k) (cases_Bool (c.fits (past c.start (words front)) t.token)))))
       where
         by : (p : g.Part) → Front p (words front) → (c.fits p t.token ≡ true) ⊎ (c.fits p t.token ≡ false) → Bad p (t ∷ rest) g.form
         by p h (inl f) = absurd (nv (opens (c.next p t.token) (words front ++ t.token ∷ []) (steps p (words front) t.token h f)))
         by p h (inr f) = (g.form, law.unfit p t.token f, omega arith)
     below_all r m q (unfinished nw) =
         inl (subst (λ (l : List Placed). Lowest (going g c end c.start l) g.form end) (append-nil (read_of g text))
-        (lowest c.start (read_of g text) [] g.form end (subst (λ (l : List Placed). Rising l end) (sym (append-nil (read_of g text))) r) refl (λ k. (by (past c.start (words (read_of g text))) (front_past (read_of g text) k) (which (g.whole (past c.start (words (read_of g text))))), omega arith))))
+        (lowest c.start (read_of g text) [] g.form end (subst (λ (l : List Placed). Rising l end) (sym (append-nil (read_of g text))) r) refl (λ k. (by (past c.start (words (read_of g text))) (front_past (read_of g text) k) (cases_Bool (g.whole (past c.start (words (read_of g text))))), omega arith))))
       where
         by : (p : g.Part) → Front p (words (read_of g text)) → (g.whole p ≡ true) ⊎ (g.whole p ≡ false) → g.whole p ≡ false
         by p h (inl f) = absurd (nw (record { part = p; good = h.0; complete = f; written = h.1 }))
@@ -251,13 +250,13 @@ module _ (g : Grammar) (c : Steps g) (law : Lawful g c) where
       where
         by : (b : Bool) → ltb f.place 4096 ≡ b → (b || (eqb f.place 4096 && leb (number f.refusal) (number g.limit))) ≡ true → NotAbove f.refusal f.place g.limit 4096
         by true i j = inl (ltb-true f.place 4096 i)
-        by false i j = inr (eqb-true f.place 4096 (and_0 (eqb f.place 4096) (leb (number f.refusal) (number g.limit)) j), leb-true (number f.refusal) (number g.limit) (and_1 (eqb f.place 4096) (leb (number f.refusal) (number g.limit)) j))
+        by false i j = inr (eqb-true f.place 4096 ((and_parts (eqb f.place 4096) (leb (number f.refusal) (number g.limit)) j).0), leb-true (number f.refusal) (number g.limit) ((and_parts (eqb f.place 4096) (leb (number f.refusal) (number g.limit)) j).1))
 
     late : (f : Flaw) → in_time f g.limit ≡ false → (4096 < f.place) ⊎ ((f.place ≡ 4096) × (number g.limit < number f.refusal))
     late f t = by (ltb f.place 4096) (eqb f.place 4096) refl refl t
       where
         by : (b d : Bool) → ltb f.place 4096 ≡ b → eqb f.place 4096 ≡ d → (b || (d && leb (number f.refusal) (number g.limit))) ≡ false → (4096 < f.place) ⊎ ((f.place ≡ 4096) × (number g.limit < number f.refusal))
-        by true d i j k = absurd (clash refl k)
+        by true d i j k = absurd (both_ways _ k refl)
         by false true i j k = inr (eqb-true f.place 4096 j, leb-false (number f.refusal) (number g.limit) k)
         by false false i j k = inl (let a = ltb-false f.place 4096 i in let z = eqb-false f.place 4096 j in omega arith)
 
@@ -352,7 +351,7 @@ pub place_inside : (g : Grammar) (text : List ℕ) (front : List Placed) (t : Pl
 place_inside g text front t rest e = inside front rest t (length text) (subst (λ (l : List Placed). Rising l (length text)) e (rising_read g.skips text))
 
 pub near : (g : Grammar) (text : List ℕ) (r : Refusal) (p : ℕ) → Refused g text r p → p ≤ 4096
-near g text r p a = go (which (leb (length text) 4096))
+near g text r p a = go (cases_Bool (leb (length text) 4096))
   where
     by : (s : Refusal) (q : ℕ) → Faulty g text s q → length text ≤ 4096 → q ≤ 4096
     by s q (unexpected front t rest e n) h = let z = place_inside g text front t rest e in omega arith

@@ -1,8 +1,7 @@
 -- What bounded lists hold, and lists of names to which one is added.
 use Rattle.std.proofs.Common.{◌≡◌, ℕ, ◌<◌, ◌≤◌, true, false, not, ◌&&◌, ltb, leb, ◌⊎◌, List, [], ◌∷◌, ◌++◌, map, length, Some, None, sym, refl, ap, ◌∙◌, subst, inl, inr, arith, ltb-false, le-ltb, lt-ltb, le-leb}
 use borrow.Author.Tests.{lt-leb}
-use Rattle.std.proofs.lemmas.Bool.{or_right}
-use Rattle.lexing.proofs.Bools.{which, clash}
+use Rattle.std.proofs.lemmas.Bool.{or_right, both_ways, cases_Bool}
 use Rattle.std.proofs.lemmas.List.{length-map, map_push}
 use Rattle.bounded.specs.declared.list.Bounded.{Bounded}
 use Rattle.lexing.specs.Tokens.{Token}
@@ -56,9 +55,9 @@ crowds vs t old more e q = go q.1
     go (inr h) = or_right (ltb 16 (length t)) (not (among t vs) && leb 16 (length vs)) (full h.0 (elim h.1 [ inl x ↦ x | inr x ↦ x ]))
 
 pub roomy : (vs : List Token) (t : Token) (old more : List Token) (i : ℕ) → old ≡ vs → Numbered old more t 16 (Some i) → crowded t vs ≡ false
-roomy vs t old more i e q = rw (le-ltb 16 (length t) q.3) (go (which (among t vs)) q.4)
+roomy vs t old more i e q = rw (le-ltb 16 (length t) q.3) (go (cases_Bool (among t vs)) q.4)
   where
     go : (among t vs ≡ true) ⊎ (among t vs ≡ false) → (among t old ≡ true) ⊎ (length old < 16) → (not (among t vs) && leb 16 (length vs)) ≡ false
     go (inl a) h = rw a refl
-    go (inr a) (inl h) = absurd (clash (subst (λ (l : List Token). among t l ≡ true) e h) a)
+    go (inr a) (inl h) = absurd (both_ways _ a (subst (λ (l : List Token). among t l ≡ true) e h))
     go (inr a) (inr h) = rw a (lt-leb 16 (length vs) (subst (λ (l : List Token). length l < 16) e h))

@@ -7,7 +7,7 @@ use Rattle.std.proofs.lemmas.List.Folds.{length-prefix_len}
 use Rattle.lexing.specs.Classes.{class, lettered}
 use Rattle.lexing.specs.Names.{all}
 use Rattle.lexing.specs.Tokens.{Token, tokens, before, joins, is, Cut}
-use Rattle.lexing.proofs.Bools.{clash, and_0, and_1}
+use Rattle.std.proofs.lemmas.Bool.{and_parts, both_ways}
 
 -- the first token begins with the first byte
 record Begun (x : ℕ) (xs : List ℕ) : Type 0 where
@@ -69,7 +69,7 @@ starts_lettered (x ∷ xs) = lettered x
 
 colon_plain : (b : ℕ) → lettered b ≡ true → eqb b 58 ≡ false
 unfolding class
-colon_plain b e = ne_eqb b 58 (λ z. clash (subst (λ (n : ℕ). lettered n ≡ true) z e) refl)
+colon_plain b e = ne_eqb b 58 (λ z. both_ways _ refl (subst (λ (n : ℕ). lettered n ≡ true) z e))
 
 cut_alone : (b x : ℕ) (m : List ℕ) (ts os : List Token) → joins b (x ∷ m) ≡ false → ts ≡ (x ∷ m) ∷ os → before b ts ≡ (b ∷ []) ∷ ts
 cut_alone b x m ts os j f = rw f (rw j refl)
@@ -81,15 +81,15 @@ pub one_word : (w rest : List ℕ) → 0 < length w → all lettered w ≡ true 
 unfolding tokens
 one_word [] rest h a s = absurd (omega arith)
 one_word (b ∷ []) [] h a s = refl
-one_word (b ∷ []) (x ∷ xs) h a s = alone b x xs (λ m. rw (colon_plain b (and_0 (lettered b) true a), s) (go (lettered b)))
+one_word (b ∷ []) (x ∷ xs) h a s = alone b x xs (λ m. rw (colon_plain b ((and_parts (lettered b) true a).0), s) (go (lettered b)))
   where
     go : (c : Bool) → ((c && false) || false) ≡ false
     go true = refl
     go false = refl
 one_word (b ∷ c ∷ w) rest h a s =
-    let e = one_word (c ∷ w) rest (omega arith) (and_1 (lettered b) (lettered c && all lettered w) a) s in
-    let l : lettered b ≡ true = and_0 (lettered b) (lettered c && all lettered w) a in
-    let k : lettered c ≡ true = and_0 (lettered c) (all lettered w) (and_1 (lettered b) (lettered c && all lettered w) a) in
+    let e = one_word (c ∷ w) rest (omega arith) ((and_parts (lettered b) (lettered c && all lettered w) a).1) s in
+    let l : lettered b ≡ true = (and_parts (lettered b) (lettered c && all lettered w) a).0 in
+    let k : lettered c ≡ true = (and_parts (lettered c) (all lettered w) ((and_parts (lettered b) (lettered c && all lettered w) a).1)).0 in
     ap (before b) e ∙ rw (l, k) refl
 
 pub one_arrow : (rest : List ℕ) → tokens (58 ∷ 45 ∷ rest) ≡ (58 ∷ 45 ∷ []) ∷ tokens rest

@@ -8,7 +8,7 @@ use Rattle.std.proofs.lemmas.List.{length_push}
 use Rattle.lexing.specs.Tokens.{Token}
 use Rattle.lexing.specs.declared.name.Alphabet.TheVariants.{Names, Lower}
 use Rattle.lexing.specs.Names.{is_identifier, is_name, among, place_of, number_of, with_name, first_seen, numbers, AllAmong}
-use Rattle.lexing.proofs.Bools.{which, clash}
+use Rattle.std.proofs.lemmas.Bool.{both_ways, cases_Bool}
 
 -- a name is a lower-case letter with the bytes of names behind it
 pub name_identifier : (t : Token) → is_identifier Lower Names t ≡ is_name t
@@ -25,10 +25,10 @@ same_self xs = (bytes_eq-Decides xs xs).1 refl
 
 pub same_decided : (xs ys : List ℕ) (r : Bool) → Decides r (xs ≡ ys) → r ≡ bytes_eq xs ys
 same_decided xs ys true d = sym ((bytes_eq-Decides xs ys).1 (d.0 refl))
-same_decided xs ys false d = go (which (bytes_eq xs ys))
+same_decided xs ys false d = go (cases_Bool (bytes_eq xs ys))
   where
     go : (bytes_eq xs ys ≡ true) ⊎ (bytes_eq xs ys ≡ false) → false ≡ bytes_eq xs ys
-    go (inl e) = absurd (clash (d.1 (same_is xs ys e)) refl)
+    go (inl e) = absurd (both_ways _ refl (d.1 (same_is xs ys e)))
     go (inr e) = sym e
 
 -- the first place is the one that the library's search finds
@@ -39,7 +39,7 @@ place_position name t (x ∷ xs) = go (bytes_eq t (name x)) (position_or_len (λ
     go : (b : Bool) (n : ℕ) → cond (ltb n (length xs)) (Some n) None ≡ place_of t (map name xs) →
         cond (ltb (cond (not b) (1 + n) 0) (suc (length xs))) (Some (cond (not b) (1 + n) 0)) None ≡ cond b (Some 0) (option_map suc (place_of t (map name xs)))
     go true n e = rw (lt-ltb 0 (suc (length xs)) (omega arith)) refl
-    go false n e = rw (← e) (by (which (ltb n (length xs))))
+    go false n e = rw (← e) (by (cases_Bool (ltb n (length xs))))
       where
         by : (ltb n (length xs) ≡ true) ⊎ (ltb n (length xs) ≡ false) → cond (ltb (1 + n) (suc (length xs))) (Some (1 + n)) None ≡ option_map suc (cond (ltb n (length xs)) (Some n) None)
         by (inl h) = let z = ltb-true n (length xs) h in rw (h, lt-ltb (1 + n) (suc (length xs)) (omega arith)) (let y : 1 + n ≡ suc n = omega arith in ap Some y)
@@ -91,7 +91,7 @@ among_push t (y ∷ xs) x = go (bytes_eq t y) (among_push t xs x)
     go false e = e
 
 pub number_push : (t : Token) (xs : List Token) (x : Token) → among t xs ≡ true → number_of t (xs ++ x ∷ []) ≡ number_of t xs
-number_push t [] x e = absurd (clash e refl)
+number_push t [] x e = absurd (both_ways _ refl e)
 number_push t (y ∷ xs) x e = go (bytes_eq t y) e (number_push t xs x)
   where
     go : (b : Bool) → (b || among t xs) ≡ true → (among t xs ≡ true → number_of t (xs ++ x ∷ []) ≡ number_of t xs) → cond b 0 (suc (number_of t (xs ++ x ∷ []))) ≡ cond b 0 (suc (number_of t xs))
@@ -103,7 +103,7 @@ number_new t [] e = rw (same_self t) refl
 number_new t (y ∷ xs) e = go (bytes_eq t y) e (number_new t xs)
   where
     go : (b : Bool) → (b || among t xs) ≡ false → (among t xs ≡ false → number_of t (xs ++ t ∷ []) ≡ length xs) → cond b 0 (suc (number_of t (xs ++ t ∷ []))) ≡ suc (length xs)
-    go true f ih = absurd (clash refl f)
+    go true f ih = absurd (both_ways _ f refl)
     go false f ih = ap suc (ih f)
 
 pub number_fresh : (t : Token) (xs : List Token) → among t xs ≡ false → number_of t xs ≡ length xs
@@ -111,11 +111,11 @@ number_fresh t [] e = refl
 number_fresh t (y ∷ xs) e = go (bytes_eq t y) e (number_fresh t xs)
   where
     go : (b : Bool) → (b || among t xs) ≡ false → (among t xs ≡ false → number_of t xs ≡ length xs) → cond b 0 (suc (number_of t xs)) ≡ suc (length xs)
-    go true f ih = absurd (clash refl f)
+    go true f ih = absurd (both_ways _ f refl)
     go false f ih = ap suc (ih f)
 
 pub number_below : (t : Token) (xs : List Token) → among t xs ≡ true → number_of t xs < length xs
-number_below t [] e = absurd (clash e refl)
+number_below t [] e = absurd (both_ways _ refl e)
 number_below t (y ∷ xs) e = go (bytes_eq t y) e (number_below t xs)
   where
     go : (b : Bool) → (b || among t xs) ≡ true → (among t xs ≡ true → number_of t xs < length xs) → cond b 0 (suc (number_of t xs)) < suc (length xs)
@@ -131,14 +131,14 @@ number_kept t xs x e = go (among x xs)
     go false = number_push t xs x e
 
 pub number_added : (t : Token) (xs : List Token) → number_of t (with_name xs t) ≡ number_of t xs
-number_added t xs = go (which (among t xs))
+number_added t xs = go (cases_Bool (among t xs))
   where
     go : (among t xs ≡ true) ⊎ (among t xs ≡ false) → number_of t (with_name xs t) ≡ number_of t xs
     go (inl e) = rw e refl
     go (inr e) = rw e (number_new t xs e ∙ sym (number_fresh t xs e))
 
 pub among_added : (t : Token) (xs : List Token) → among t (with_name xs t) ≡ true
-among_added t xs = go (which (among t xs))
+among_added t xs = go (cases_Bool (among t xs))
   where
     go : (among t xs ≡ true) ⊎ (among t xs ≡ false) → among t (with_name xs t) ≡ true
     go (inl e) = rw e e
@@ -204,12 +204,12 @@ among_append t (x ∷ xs) ys = go (bytes_eq t x) (among_append t xs ys)
 
 -- a name that is there shares its number with no other
 pub number_differs : (t v : Token) (xs : List Token) → among t xs ≡ true → bytes_eq v t ≡ false → number_of v xs ≡ number_of t xs → ⊥
-number_differs t v [] a d e = clash a refl
+number_differs t v [] a d e = both_ways _ refl a
 number_differs t v (x ∷ xs) a d e = go (bytes_eq t x) (bytes_eq v x) refl refl a e (number_differs t v xs)
   where
     go : (b c : Bool) → bytes_eq t x ≡ b → bytes_eq v x ≡ c → (b || among t xs) ≡ true → cond c 0 (suc (number_of v xs)) ≡ cond b 0 (suc (number_of t xs)) →
         (among t xs ≡ true → bytes_eq v t ≡ false → number_of v xs ≡ number_of t xs → ⊥) → ⊥
-    go true true i j k z ih = clash (subst (λ (y : Token). bytes_eq v y ≡ true) (sym (same_is t x i)) j) d
+    go true true i j k z ih = both_ways _ d (subst (λ (y : Token). bytes_eq v y ≡ true) (sym (same_is t x i)) j)
     go true false i j k z ih = omega arith
     go false true i j k z ih = omega arith
     go false false i j k z ih = ih k d (omega arith)
