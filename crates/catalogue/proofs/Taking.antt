@@ -223,14 +223,6 @@ mark_fits t m e = go (is 98 t) (is 102 t) e
     go false false f = absurd (cc)
 
 module _ (r : Reader) (e : Entry) (i : ℕ) (t : Token) (ls : List Line) (n : Token) (cs : List Column) (k : Token) (behind : BehindKind r e i ls n cs k) (mark : Mark) (read : Some mark ≡ mark_read t) where
-  pub fourth : mark ≡ Given → 3 ≤ inputs_of (held e.columns.marks) → wrong (coloned ls n cs k) t ≡ Some CatalogueLimit
-  fourth given h = told_limit (is 98 t || is 102 t) (is 98 t && leb 3 (inputs_of (marks_in cs))) false (mark_fits t mark read).0
-      (go (is 98 t) refl ((mark_fits t mark read).1))
-    where
-      go : (x : Bool) → is 98 t ≡ x → mark ≡ cond x Given Free → (x && leb 3 (inputs_of (marks_in cs))) ≡ true
-      go true j f = le-leb 3 (inputs_of (marks_in cs)) (let z = ap inputs_of behind.1.marks in omega arith)
-      go false j f = absurd (cc)
-
   pub has_mark : (mark ≡ Given → inputs_of (held e.columns.marks) < 3) → (more : rc.Columns) →
       (length (held e.columns.kinds) < 4 → held more.kinds ≡ held e.columns.kinds ++ i ∷ []) → (length (held e.columns.marks) < 4 → held more.marks ≡ held e.columns.marks ++ mark ∷ []) →
       Taken steps (At r) (coloned ls n cs k) t (Ok (at.Columns (record { name = e.name; columns = more })))

@@ -2,7 +2,7 @@
 ghost use Rattle.std.specs.Prelude.{◌≡◌, List as Many, []};
 ghost use Rattle.catalogue.specs.Sheets.{Line, Column, Part, lines, columns as begun, spaced, kinded, coloned, kinds_in};
 ghost use Rattle.catalogue.specs.Reading.{mark_read, steps, Seen, Behind, BehindKind, At, Tied};
-ghost use Rattle.catalogue.specs.declared.state.Reader as behind;
+ghost use Rattle.catalogue.specs.declared.state.Reader as state;
 ghost use Rattle.lexing.specs.Readers.{Taken};
 ghost use Rattle.lexing.specs.Tokens.{Token};
 
@@ -36,7 +36,7 @@ fn mark_of(token: &[u8]) -> Option<Mark>
 
 // A colon comes between a kind and its mark.
 fn take_colon(entry: Entry, kind: u8, token: &[u8]) -> Result<Stage, Refusal>
-    ensures taken { (r : behind.Reader) (ls : Many Line) (n : Token) (cs : Many Column) (k : Token) → BehindKind r entry kind ls n cs k → Taken steps (At r) (kinded ls n cs k) token.now result }
+    ensures taken { (r : state.Reader) (ls : Many Line) (n : Token) (cs : Many Column) (k : Token) → BehindKind r entry kind ls n cs k → Taken steps (At r) (kinded ls n cs k) token.now result }
 {
     if !is_byte(token, b':') {
         return Err(Refusal::CatalogueForm);
@@ -46,7 +46,7 @@ fn take_colon(entry: Entry, kind: u8, token: &[u8]) -> Result<Stage, Refusal>
 
 // A mark ends a column.
 fn take_mark(entry: Entry, kind: u8, token: &[u8]) -> Result<Stage, Refusal>
-    ensures taken { (r : behind.Reader) (ls : Many Line) (n : Token) (cs : Many Column) (k : Token) → BehindKind r entry kind ls n cs k → Taken steps (At r) (coloned ls n cs k) token.now result }
+    ensures taken { (r : state.Reader) (ls : Many Line) (n : Token) (cs : Many Column) (k : Token) → BehindKind r entry kind ls n cs k → Taken steps (At r) (coloned ls n cs k) token.now result }
 {
     let mark = mark_of(token).ok_or(Refusal::CatalogueForm)?;
     let given = count_inputs(entry.columns.marks.as_slice());

@@ -1,13 +1,12 @@
 -- A reader of a grammar goes from part to part. What it finds is the lowest fault, or the whole text.
-use Rattle.std.proofs.Common.{◌≡◌, ℕ, ◌+◌, ◌<◌, ◌≤◌, Bool, true, false, cond, ◌&&◌, ◌||◌, eqb, ltb, leb, ◌⊎◌, List, [], ◌∷◌, ◌++◌, length, drop, Some, None, Ok, Err, Option, sym, refl, ap, ◌∙◌, subst, inl, inr, append_assoc, append-nil, arith, length-drop, length-take, ltb-false, ltb-true, eqb-true, le-leb, leb-false, leb-true}
-use borrow.Author.Tests.{eqb-false, lt-leb}
-use Rattle.std.proofs.lemmas.List.{drop_all}
+use Rattle.std.proofs.Common.{◌≡◌, ℕ, ◌+◌, ◌<◌, ◌≤◌, Bool, true, false, cond, ◌&&◌, ◌||◌, eqb, ltb, leb, ◌⊎◌, List, [], ◌∷◌, ◌++◌, length, Some, None, Ok, Err, Option, sym, refl, ap, ◌∙◌, subst, inl, inr, append_assoc, append-nil, arith, ltb-false, ltb-true, eqb-true, le-leb, leb-false, leb-true}
+use borrow.Author.Tests.{eqb-false}
 use Rattle.faults.specs.declared.refusal.Refusal.{Refusal}
 use Rattle.faults.specs.Refusals.{number}
 use Rattle.lexing.specs.declared.flaw.Flaw.{Flaw}
-use Rattle.lexing.specs.Flaws.{first_flaw, in_time}
-use Rattle.lexing.specs.Tokens.{Token, tokens, Cut, Placed, placed, sieved, words}
-use Rattle.lexing.specs.Readers.{Steps, Outcome, flaw, step, going, from, with_length, piece}
+use Rattle.lexing.specs.Flaws.{in_time}
+use Rattle.lexing.specs.Tokens.{Token, tokens, Placed, placed, sieved, words}
+use Rattle.lexing.specs.Readers.{Steps, Outcome, flaw, step, going, with_length}
 use Rattle.lexing.specs.Grammars.{Grammar, read_of, Whole, Begins, Faulty, unexpected, unfinished, caused, too_long, NotAbove, Refused, Accepted}
 use Rattle.std.proofs.lemmas.Bool.{and_parts, both_ways, cases_Bool}
 use Rattle.lexing.proofs.Lexing.{Solid, solid_tokens, size, size_tokens}
@@ -80,12 +79,6 @@ rising_read : (f : Token → Bool) (text : List ℕ) → Rising (sieved f (place
 rising_read f text =
     let e : 0 + size (tokens text) ≡ length text = (let z = size_tokens text in omega arith) in
     rising_sieved f (placed 0 (tokens text)) (length text) (subst (Rising (placed 0 (tokens text))) e (rising_placed 0 (tokens text) (solid_tokens text)))
-
--- the token that stands from one place to another comes first of those from there on
-pub cut_placed : (text : List ℕ) (k e : ℕ) → Cut text k e → placed k (tokens (drop k text)) ≡ record { token = piece text k e; place = k } ∷ placed e (tokens (drop e text))
-cut_placed text k e u =
-    let behind : k + length (piece text k e) ≡ e = (let a = u.after in let b = u.within in simp (length-take, length-drop) (omega arith)) in
-    ap (placed k) u.cut ∙ ap (λ (n : ℕ). record { token = piece text k e; place = k } ∷ placed n (tokens (drop e text))) behind
 
 module _ (g : Grammar) (c : Steps g) (law : Lawful g c) where
   abbrev run : g.Part → List Token → Bool
@@ -282,32 +275,8 @@ module _ (g : Grammar) (c : Steps g) (law : Lawful g c) where
     pub accepted_so : (p : g.Part) → way ≡ Ok p → end ≤ 4096 → Accepted g text p
     accepted_so p e h = let z : settled (Ok p) ≡ Ok p = rw (le-leb end 4096 h) refl in subst Judged (ap settled e ∙ z) judged
 
-    pub over_so : (p : g.Part) → way ≡ Ok p → 4096 < end → Refused g text g.limit 4096
-    over_so p e h = let z : settled (Ok p) ≡ Err (flaw g.limit 4096) = rw (lt-leb end 4096 h) refl in subst Judged (ap settled e ∙ z) judged
-
-    pub refused_so : (f : Flaw) → way ≡ Err f → Refused g text (first_flaw f end g.limit).refusal (first_flaw f end g.limit).place
-    refused_so f e = subst Judged (ap settled e) judged
-
     pub refused_read : (f : Flaw) → settled way ≡ Err f → Refused g text f.refusal f.place
     refused_read f e = subst Judged e judged
-
-    -- one turn of a reader's loop
-    pub turn_skip : (k e : ℕ) (p : g.Part) → Cut text k e → g.skips (piece text k e) ≡ true → from g c text k p ≡ from g c text e p
-    turn_skip k e p u s = ap (λ (l : List Placed). going g c end p (sieved g.skips l)) (cut_placed text k e u) ∙ rw s refl
-
-    kept : (k e : ℕ) (p : g.Part) → Cut text k e → g.skips (piece text k e) ≡ false → from g c text k p ≡ step (c.wrong p (piece text k e)) k (from g c text e (c.next p (piece text k e)))
-    unfolding going
-    kept k e p u s = ap (λ (l : List Placed). going g c end p (sieved g.skips l)) (cut_placed text k e u) ∙ rw s refl
-
-    pub turn_on : (k e : ℕ) (p : g.Part) → Cut text k e → g.skips (piece text k e) ≡ false → c.wrong p (piece text k e) ≡ None → from g c text k p ≡ from g c text e (c.next p (piece text k e))
-    turn_on k e p u s w = kept k e p u s ∙ rw w refl
-
-    pub turn_off : (k e : ℕ) (p : g.Part) (r : Refusal) → Cut text k e → g.skips (piece text k e) ≡ false → c.wrong p (piece text k e) ≡ Some r → from g c text k p ≡ Err (record { refusal = r; place = k })
-    turn_off k e p r u s w = kept k e p u s ∙ rw w refl
-
-    pub turn_end : (k : ℕ) (p : g.Part) → end ≤ k → from g c text k p ≡ cond (g.whole p) (Ok p) (Err (record { refusal = g.form; place = end }))
-    unfolding going tokens
-    turn_end k p h = rw (drop_all k text h) refl
 
     -- one answer
     pub one_part : (p q : g.Part) → Accepted g text p → Accepted g text q → p ≡ q

@@ -2,7 +2,7 @@
 use Rattle.std.proofs.Common.{◌≡◌, ℕ, true, false, cond, List, [], ◌∷◌, length, Ok, Err, sym, refl, ap, ◌∙◌}
 use Rattle.faults.specs.declared.refusal.Refusal.{Refusal}
 use Rattle.lexing.specs.declared.flaw.Flaw.{Flaw}
-use Rattle.lexing.specs.Tokens.{tokens, Placed, placed, sieved}
+use Rattle.lexing.specs.Tokens.{Placed, sieved}
 use Rattle.lexing.specs.Grammars.{Grammar}
 use Rattle.lexing.specs.Readers.{Steps, Outcome, step, going, from, flaw, TakenAt, WentThrough}
 
@@ -16,9 +16,6 @@ module _ {R : Type 0} (g : Grammar) (c : Steps g) (Stands : R → g.Part → Typ
     pub part : g.Part
     pub stands : Stands r part
     pub way : from g c text 0 c.start ≡ on part left
-
-  pub read_none : (r : R) (left : List Placed) → left ≡ placed 0 (tokens text) → Stands r c.start → ReadUpTo r left
-  read_none r left e s = record { part = c.start; stands = s; way = ap (on c.start) (sym e) }
 
   module _ (r : R) (old left : List Placed) (t : Placed) (here : ReadUpTo r old) (turn : old ≡ t ∷ left) where
     pub passed : true ≡ g.skips t.token → ReadUpTo r left

@@ -1,5 +1,5 @@
 -- The way of a reader over the tokens of a text. It is no part of what a text means: proofs/Course.antt shows that it finds the lowest fault or the whole text.
-use Rattle.std.specs.Prelude.{◌≡◌, ℕ, ◌-◌, ◌≤◌, Bool, cond, List, [], ◌∷◌, length, take, drop, Some, None, Ok, Err, Option, Result, nat_le}
+use Rattle.std.specs.Prelude.{◌≡◌, ℕ, ◌≤◌, Bool, cond, List, [], ◌∷◌, length, drop, Some, None, Ok, Err, Option, Result, nat_le}
 use Rattle.faults.specs.declared.refusal.Refusal.{Refusal}
 use Rattle.lexing.specs.declared.flaw.Flaw.{Flaw}
 use Rattle.lexing.specs.Flaws.{first_flaw}
@@ -55,7 +55,3 @@ with_length g n (Err f) = Err (first_flaw f n g.limit)
 abbrev pub HasRead : {R : Type 0} (g : Grammar) → Steps g → (R → g.Part → Type 0) → List ℕ → Result R Flaw → Type 0
 HasRead g c Stands text (Ok r) = (length text ≤ 4096) × WentThrough g c Stands text (Ok r)
 HasRead g c Stands text (Err f) = with_length g (length text) (from g c text 0 c.start) ≡ Err f
-
--- the bytes from one place to another
-abbrev pub piece : List ℕ → ℕ → ℕ → Token
-piece text k e = take (e - k) (drop k text)
