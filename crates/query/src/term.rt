@@ -1,6 +1,7 @@
 // The terms and literals of a query.
-ghost use Rattle.std.specs.Prelude.{◌≡◌, []};
+ghost use Rattle.std.specs.Prelude.{◌≡◌, [], map};
 ghost use Rattle.bounded.specs.Held.{held};
+ghost use Rattle.query.specs.Plain.{plain_literal, plain_term};
 
 use bounded::Bounded;
 
@@ -31,5 +32,20 @@ impl Literal {
             source,
             terms: Bounded::new(Term::Constant(0)),
         }
+    }
+
+    // The number of the literal's source.
+    pub fn source(&self) -> u8
+        ensures value { result ≡ (plain_literal self.now).source }
+    {
+        self.source
+    }
+
+    // The terms, one for each column of the source.
+    pub fn terms(&self) -> &[Term]
+        ensures value { map plain_term result.now ≡ (plain_literal self.now).terms }
+        ensures items { result.now ≡ held self.now.terms }
+    {
+        self.terms.as_slice()
     }
 }

@@ -1,14 +1,14 @@
 // Queries from their texts, and what they hold.
 ghost use Rattle.std.specs.Prelude.{◌≡◌, [], map, length, slice_index_or};
 ghost use Rattle.bounded.specs.Held.{held};
-ghost use Rattle.query.specs.Plain.{plain_literal, plain_term};
+ghost use Rattle.query.specs.Plain.{plain_literal};
 ghost use Rattle.query.specs.Records.{plain_query, variable_names};
 ghost use Rattle.query.specs.Texts.{Read, OneAnswer};
 
 use crate::ends::place_of_token;
 use crate::reader::Reader;
 use crate::record::Query;
-use crate::term::{Literal, Term};
+use crate::term::Literal;
 use catalogue::Catalogue;
 use faults::{Fault, Refusal};
 use lexing::read;
@@ -66,23 +66,6 @@ impl Query {
     {
         let names = self.variables.as_slice();
         names.get(variable).map_or(&[], |name| name.as_slice())
-    }
-}
-
-impl Literal {
-    // The number of the literal's source.
-    pub fn source(&self) -> u8
-        ensures value { result ≡ (plain_literal self.now).source }
-    {
-        self.source
-    }
-
-    // The terms, one for each column of the source.
-    pub fn terms(&self) -> &[Term]
-        ensures value { map plain_term result.now ≡ (plain_literal self.now).terms }
-        ensures items { result.now ≡ held self.now.terms }
-    {
-        self.terms.as_slice()
     }
 }
 
