@@ -30,7 +30,7 @@ use Rattle.query.specs.Reading.{steps, ReadAt, Tied}
 use Rattle.query.specs.Ends.{FirstMissing, places, tokens_of}
 use Rattle.query.specs.Texts.{Written, Missing, QueryRefused, QueryAccepted}
 use Rattle.query.proofs.Laws.{lawful}
-use Rattle.query.proofs.Growing.{or_else_none, kind_in_there, occurs_there}
+use Rattle.query.proofs.Growing.{option_or-None, kind_in_there, occurs_there}
 use Rattle.query.proofs.Placing.{splits}
 
 -- lists of names, by places
@@ -148,7 +148,7 @@ module _ (cat : Described) (text : List ℕ) (d : Draft) (h : Atom) (ls : List A
   kind_at k w =
       let v = get_or (items h) k [] in
       let e : get_or (held d.head) k 0 ≡ number_of v vs = ap (λ (l : List ℕ). get_or l k 0) read.head ∙ numbers_at vs (items h) k w in
-      ap (λ (n : ℕ). is_some (get_or d.kinds.cells n None)) e ∙ ap (is_some {T = ℕ}) (read.kinds v (variable_at k w) ∙ or_else_none (kind_in cat v ms)) ∙ kind_in_there cat v ms
+      ap (λ (n : ℕ). is_some (get_or d.kinds.cells n None)) e ∙ ap (is_some {T = ℕ}) (read.kinds v (variable_at k w) ∙ option_or-None (kind_in cat v ms)) ∙ kind_in_there cat v ms
 
   module _ (all : FirstMissing (held d.head) d.kinds.cells None) where
     all_there : AllAmong (items h) (items_in ms)

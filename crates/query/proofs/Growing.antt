@@ -1,5 +1,6 @@
 -- Lists that grow as a query is read: variables, kinds, terms and literals.
 use Rattle.std.proofs.Common.{◌≡◌, ℕ, suc, ◌+◌, ◌<◌, ◌≤◌, Bool, true, false, cond, ◌&&◌, ◌||◌, eqb, ltb, ◌≢◌, ◌⊎◌, List, [], ◌∷◌, ◌++◌, map, length, get_or, set, is_some, Some, None, Option, sym, refl, ap, ◌∙◌, subst, inl, inr, append_assoc, append-nil, zero-add, arith, ltb-true, lt-ltb, eq-eqb}
+use Rattle.std.specs.Option.{option_or}
 use Rattle.std.specs.Str.{bytes_eq}
 use Rattle.std.proofs.lemmas.List.{get_or-set_same, get_or-set_other, length-map}
 use Rattle.lexing.specs.Tokens.{Token}
@@ -12,7 +13,7 @@ use Rattle.query.specs.Terms.{is_variable}
 use Rattle.query.specs.Noted.{noted}
 use Rattle.query.specs.Plain.{Term, constant, variable, Literal, is_variable_of, occurs_in, occurs, below, all_below, fitting, all_fitting}
 use Rattle.query.specs.Records.{term_of, literal_of}
-use Rattle.query.specs.Rules.{Atom, items, items_in, variables_of, known, kinds_at, or_else, kind_among, kind_in, kind_of}
+use Rattle.query.specs.Rules.{Atom, items, items_in, variables_of, known, kinds_at, kind_among, kind_in, kind_of}
 
 variables_append : (xs ys : List Token) → variables_of (xs ++ ys) ≡ variables_of xs ++ variables_of ys
 variables_append [] ys = refl
@@ -125,44 +126,44 @@ literal_fits cat vs a paired there many all =
     ) (terms_below vs (items a) all)
 
 -- kinds
-pub or_else_none : (o : Option ℕ) → or_else o None ≡ o
-or_else_none None = refl
-or_else_none (Some k) = refl
+pub option_or-None : (o : Option ℕ) → option_or o None ≡ o
+option_or-None None = refl
+option_or-None (Some k) = refl
 
-or_else_assoc : (a b c : Option ℕ) → or_else (or_else a b) c ≡ or_else a (or_else b c)
-or_else_assoc None b c = refl
-or_else_assoc (Some k) b c = refl
+option_or_assoc : (a b c : Option ℕ) → option_or (option_or a b) c ≡ option_or a (option_or b c)
+option_or_assoc None b c = refl
+option_or_assoc (Some k) b c = refl
 
-kind_among_push : (v : Token) (ks : List ℕ) (i : ℕ) (ts : List Token) (t : Token) → kind_among v ks i (ts ++ t ∷ []) ≡ or_else (kind_among v ks i ts) (cond (bytes_eq v t) (Some (get_or ks (i + length ts) 0)) None)
+kind_among_push : (v : Token) (ks : List ℕ) (i : ℕ) (ts : List Token) (t : Token) → kind_among v ks i (ts ++ t ∷ []) ≡ option_or (kind_among v ks i ts) (cond (bytes_eq v t) (Some (get_or ks (i + length ts) 0)) None)
 kind_among_push v ks i [] t = let e : i + 0 ≡ i = omega arith in rw e refl
 kind_among_push v ks i (x ∷ ts) t = go (bytes_eq v x) (kind_among_push v ks (suc i) ts t)
   where
-    go : (b : Bool) → kind_among v ks (suc i) (ts ++ t ∷ []) ≡ or_else (kind_among v ks (suc i) ts) (cond (bytes_eq v t) (Some (get_or ks (suc i + length ts) 0)) None) →
-        cond b (Some (get_or ks i 0)) (kind_among v ks (suc i) (ts ++ t ∷ [])) ≡ or_else (cond b (Some (get_or ks i 0)) (kind_among v ks (suc i) ts)) (cond (bytes_eq v t) (Some (get_or ks (i + suc (length ts)) 0)) None)
+    go : (b : Bool) → kind_among v ks (suc i) (ts ++ t ∷ []) ≡ option_or (kind_among v ks (suc i) ts) (cond (bytes_eq v t) (Some (get_or ks (suc i + length ts) 0)) None) →
+        cond b (Some (get_or ks i 0)) (kind_among v ks (suc i) (ts ++ t ∷ [])) ≡ option_or (cond b (Some (get_or ks i 0)) (kind_among v ks (suc i) ts)) (cond (bytes_eq v t) (Some (get_or ks (i + suc (length ts)) 0)) None)
     go true e = refl
-    go false e = e ∙ ap (λ (n : ℕ). or_else (kind_among v ks (suc i) ts) (cond (bytes_eq v t) (Some (get_or ks n 0)) None)) (let z : suc i + length ts ≡ i + suc (length ts) = omega arith in z)
+    go false e = e ∙ ap (λ (n : ℕ). option_or (kind_among v ks (suc i) ts) (cond (bytes_eq v t) (Some (get_or ks n 0)) None)) (let z : suc i + length ts ≡ i + suc (length ts) = omega arith in z)
 
 pub kind_of_push : (cat : Described) (v : Token) (ls : List Atom) (n : Token) (ts : List Token) (t : Token) →
-    kind_of cat v ls n (ts ++ t ∷ []) ≡ or_else (kind_of cat v ls n ts) (cond (bytes_eq v t) (Some (get_or (kinds_at cat n) (length ts) 0)) None)
+    kind_of cat v ls n (ts ++ t ∷ []) ≡ option_or (kind_of cat v ls n ts) (cond (bytes_eq v t) (Some (get_or (kinds_at cat n) (length ts) 0)) None)
 kind_of_push cat v ls n ts t =
-    ap (or_else (kind_in cat v ls)) (kind_among_push v (kinds_at cat n) 0 ts t ∙ ap (λ (m : ℕ). or_else (kind_among v (kinds_at cat n) 0 ts) (cond (bytes_eq v t) (Some (get_or (kinds_at cat n) m 0)) None)) (zero-add (length ts)))
-    ∙ sym (or_else_assoc (kind_in cat v ls) (kind_among v (kinds_at cat n) 0 ts) (cond (bytes_eq v t) (Some (get_or (kinds_at cat n) (length ts) 0)) None))
+    ap (option_or (kind_in cat v ls)) (kind_among_push v (kinds_at cat n) 0 ts t ∙ ap (λ (m : ℕ). option_or (kind_among v (kinds_at cat n) 0 ts) (cond (bytes_eq v t) (Some (get_or (kinds_at cat n) m 0)) None)) (zero-add (length ts)))
+    ∙ sym (option_or_assoc (kind_in cat v ls) (kind_among v (kinds_at cat n) 0 ts) (cond (bytes_eq v t) (Some (get_or (kinds_at cat n) (length ts) 0)) None))
 
-kind_in_push : (cat : Described) (v : Token) (ls : List Atom) (a : Atom) → kind_in cat v (ls ++ a ∷ []) ≡ or_else (kind_in cat v ls) (kind_among v (kinds_at cat a.name) 0 (items a))
-kind_in_push cat v [] a = or_else_none (kind_among v (kinds_at cat a.name) 0 (items a))
+kind_in_push : (cat : Described) (v : Token) (ls : List Atom) (a : Atom) → kind_in cat v (ls ++ a ∷ []) ≡ option_or (kind_in cat v ls) (kind_among v (kinds_at cat a.name) 0 (items a))
+kind_in_push cat v [] a = option_or-None (kind_among v (kinds_at cat a.name) 0 (items a))
 kind_in_push cat v (l ∷ ls) a =
-    ap (or_else (kind_among v (kinds_at cat l.name) 0 (items l))) (kind_in_push cat v ls a)
-    ∙ sym (or_else_assoc (kind_among v (kinds_at cat l.name) 0 (items l)) (kind_in cat v ls) (kind_among v (kinds_at cat a.name) 0 (items a)))
+    ap (option_or (kind_among v (kinds_at cat l.name) 0 (items l))) (kind_in_push cat v ls a)
+    ∙ sym (option_or_assoc (kind_among v (kinds_at cat l.name) 0 (items l)) (kind_in cat v ls) (kind_among v (kinds_at cat a.name) 0 (items a)))
 
 pub kind_closed : (cat : Described) (v : Token) (ls : List Atom) (a : Atom) → kind_of cat v ls a.name (items a) ≡ kind_of cat v (ls ++ a ∷ []) [] []
-kind_closed cat v ls a = sym (or_else_none (kind_in cat v (ls ++ a ∷ [])) ∙ kind_in_push cat v ls a)
+kind_closed cat v ls a = sym (option_or-None (kind_in cat v (ls ++ a ∷ [])) ∙ kind_in_push cat v ls a)
 
 pub kind_same : (cat : Described) (v : Token) (ls : List Atom) (n : Token) (ts : List Token) (t : Token) → is_variable v ≡ true → is_variable t ≡ false → kind_of cat v ls n (ts ++ t ∷ []) ≡ kind_of cat v ls n ts
 kind_same cat v ls n ts t e f = kind_of_push cat v ls n ts t ∙ go (which (bytes_eq v t))
   where
-    go : (bytes_eq v t ≡ true) ⊎ (bytes_eq v t ≡ false) → or_else (kind_of cat v ls n ts) (cond (bytes_eq v t) (Some (get_or (kinds_at cat n) (length ts) 0)) None) ≡ kind_of cat v ls n ts
+    go : (bytes_eq v t ≡ true) ⊎ (bytes_eq v t ≡ false) → option_or (kind_of cat v ls n ts) (cond (bytes_eq v t) (Some (get_or (kinds_at cat n) (length ts) 0)) None) ≡ kind_of cat v ls n ts
     go (inl s) = absurd (clash (subst (λ (x : Token). is_variable x ≡ true) (same_is v t s) e) f)
-    go (inr s) = rw s (or_else_none (kind_of cat v ls n ts))
+    go (inr s) = rw s (option_or-None (kind_of cat v ls n ts))
 
 -- the noted kinds of variables
 abbrev pub KindsAre : List (Option ℕ) → List Token → (Token → Option ℕ) → Type 0
@@ -185,13 +186,13 @@ pub unused_grown : (cells : List (Option ℕ)) (vs : List Token) (t : Token) →
 unused_grown cells vs t u j h = u j (let z = length_added vs t in omega arith)
 
 pub kinds_noted : (cells : List (Option ℕ)) (vs : List Token) (t : Token) (k : ℕ) (kind : Token → Option ℕ) → number_of t vs < length cells → among t vs ≡ true → is_variable t ≡ true → KindsAre cells vs kind →
-    KindsAre (noted cells (number_of t vs) k (get_or cells (number_of t vs) None)) vs (λ v. or_else (kind v) (cond (bytes_eq v t) (Some k) None))
+    KindsAre (noted cells (number_of t vs) k (get_or cells (number_of t vs) None)) vs (λ v. option_or (kind v) (cond (bytes_eq v t) (Some k) None))
 kinds_noted cells vs t k kind room there form ks v e = go (which (bytes_eq v t)) (get_or cells (number_of t vs) None) refl
   where
     i : ℕ
     i = number_of t vs
 
-    go : (bytes_eq v t ≡ true) ⊎ (bytes_eq v t ≡ false) → (o : Option ℕ) → get_or cells (number_of t vs) None ≡ o → get_or (noted cells (number_of t vs) k o) (number_of v vs) None ≡ or_else (kind v) (cond (bytes_eq v t) (Some k) None)
+    go : (bytes_eq v t ≡ true) ⊎ (bytes_eq v t ≡ false) → (o : Option ℕ) → get_or cells (number_of t vs) None ≡ o → get_or (noted cells (number_of t vs) k o) (number_of v vs) None ≡ option_or (kind v) (cond (bytes_eq v t) (Some k) None)
     go (inl s) None g =
         let q : kind v ≡ None = ap kind (same_is v t s) ∙ sym (ks t form) ∙ g in
         rw (s, q) (ap (λ (x : Token). get_or (set cells (number_of t vs) (Some k)) (number_of x vs) None) (same_is v t s) ∙ get_or-set_same cells (number_of t vs) (Some k) None room)
@@ -200,8 +201,8 @@ kinds_noted cells vs t k kind room there form ks v e = go (which (bytes_eq v t))
         rw (s, q) (ap (λ (x : Token). get_or cells (number_of x vs) None) (same_is v t s) ∙ g)
     go (inr s) None g =
         let d : number_of v vs ≢ number_of t vs = number_differs t v vs there s in
-        rw s (get_or-set_other cells (number_of t vs) (number_of v vs) (Some k) None d ∙ ks v e ∙ sym (or_else_none (kind v)))
-    go (inr s) (Some j) g = rw s (ks v e ∙ sym (or_else_none (kind v)))
+        rw s (get_or-set_other cells (number_of t vs) (number_of v vs) (Some k) None d ∙ ks v e ∙ sym (option_or-None (kind v)))
+    go (inr s) (Some j) g = rw s (ks v e ∙ sym (option_or-None (kind v)))
 
 pub unused_noted : (cells : List (Option ℕ)) (vs : List Token) (t : Token) (k : ℕ) → among t vs ≡ true → Unused cells vs → Unused (noted cells (number_of t vs) k (get_or cells (number_of t vs) None)) vs
 unused_noted cells vs t k there u j h = go (get_or cells (number_of t vs) None)
@@ -211,7 +212,7 @@ unused_noted cells vs t k there u j h = go (get_or cells (number_of t vs) None)
     go (Some x) = u j h
 
 -- a variable has a kind where it stands in a literal
-some_or : (a b : Option ℕ) → is_some (or_else a b) ≡ (is_some a || is_some b)
+some_or : (a b : Option ℕ) → is_some (option_or a b) ≡ (is_some a || is_some b)
 some_or None b = refl
 some_or (Some k) b = refl
 

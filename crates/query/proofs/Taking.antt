@@ -1,7 +1,7 @@
 -- A token taken, stage by stage.
 use Rattle.std.proofs.Common.{◌≡◌, ℕ, ◌<◌, ◌≤◌, Bool, true, false, cond, not, ◌&&◌, ◌||◌, ltb, leb, ◌⊎◌, List, [], ◌∷◌, ◌++◌, map, length, get_or, Some, None, Option, Err, sym, refl, ap, ◌∙◌, subst, inl, inr, arith, le-ltb, lt-ltb, le-leb}
 use borrow.Author.Tests.{lt-leb}
-use Rattle.std.specs.Option.{ok_or}
+use Rattle.std.specs.Option.{option_or, ok_or}
 use Rattle.std.specs.Str.{bytes_eq}
 use Rattle.std.proofs.lemmas.Bool.{or_left, or_right}
 use Rattle.std.proofs.lemmas.List.{map_push, length-map, length_push}
@@ -31,7 +31,7 @@ use Rattle.query.specs.Terms.{is_variable, is_constant, value}
 use Rattle.query.specs.Noted.{other_kind, noted}
 use Rattle.query.specs.Plain.{Term, constant, variable, Literal, plain_term, plain_literal, fitting, all_fitting}
 use Rattle.query.specs.Records.{term_of, literal_of}
-use Rattle.query.specs.Rules.{Atom, items, Part, due, listed, known, kinds_at, kind_of, or_else}
+use Rattle.query.specs.Rules.{Atom, items, Part, due, listed, known, kinds_at, kind_of}
 use Rattle.query.specs.Reading.{is_arrow, atom_of, fits, next, refusal, wrong, Seen, Behind, Begins, StageAt, start, wanted_literal, named_head, named_literal, due_head, due_literal, listed_head, listed_literal, headed, closed_literal, whole, ReadAt, Stands, TermTaken, term_taken}
 use Rattle.query.proofs.Sources.{few_sources, as_many_columns, few_columns}
 use Rattle.query.proofs.Spelling.{not_both_forms}
@@ -357,7 +357,7 @@ module _ (cat : Described) (d : Draft) (l : rl.Literal) where
                 told_none (is_variable t || is_constant t) full crowd mix big (variable_fits t form) (free k) place_free (mix_is false agrees) not_large,
                 term_taken h ls n ts t
                     (moved (sym (known_variable us ts t form)) (rekinded
-                    (λ x f. ap (λ (y : ℕ). or_else (kind_of cat x ls n ts) (cond (bytes_eq x t) (Some y) None)) (kind_is ∙ kind_here) ∙ sym (kind_of_push cat x ls n ts t))
+                    (λ x f. ap (λ (y : ℕ). option_or (kind_of cat x ls n ts) (cond (bytes_eq x t) (Some y) None)) (kind_is ∙ kind_here) ∙ sym (kind_of_push cat x ls n ts t))
                     (record {
                       catalogue = read.catalogue;
                       variables = q.0 ∙ ap (λ (x : List Token). with_name x t) read.variables;

@@ -1,5 +1,6 @@
 -- A query text: how it is written, and what is wrong with one.
 use Rattle.std.specs.Prelude.{◌≡◌, ℕ, suc, ◌<◌, ◌≤◌, Bool, true, false, cond, List, [], ◌∷◌, ◌++◌, length, Some, None, Option, ◌≢◌, slice_index, slice_index_or}
+use Rattle.std.specs.Option.{option_or}
 use Rattle.std.specs.Str.{bytes_eq}
 use Rattle.faults.specs.declared.refusal.Refusal.{Refusal}
 use Rattle.faults.specs.declared.refusal.Refusal.TheVariants.{QueryForm, UnfitLiteral, QueryLimit, VariableInTwoKinds, ConstantTooLarge}
@@ -119,10 +120,6 @@ known us ts = first_seen [] (variables_of (items_in us ++ ts))
 abbrev pub kinds_at : Described → Token → List ℕ
 kinds_at cat n = (slice_index_or cat.columns (number_of n cat.names) no_columns).kinds
 
-abbrev pub or_else : Option ℕ → Option ℕ → Option ℕ
-or_else None o = o
-or_else (Some k) o = Some k
-
 -- the kind of the column in which an item first stands: among the items of one literal, from a column on, and in literals
 abbrev pub kind_among : Token → List ℕ → ℕ → List Token → Option ℕ
 kind_among v kinds i [] = None
@@ -130,11 +127,11 @@ kind_among v kinds i (t ∷ ts) = cond (bytes_eq v t) (Some (slice_index kinds i
 
 abbrev pub kind_in : Described → Token → List Atom → Option ℕ
 kind_in cat v [] = None
-kind_in cat v (l ∷ ls) = or_else (kind_among v (kinds_at cat l.name) 0 (items l)) (kind_in cat v ls)
+kind_in cat v (l ∷ ls) = option_or (kind_among v (kinds_at cat l.name) 0 (items l)) (kind_in cat v ls)
 
 -- the kind of an item behind a head, literals, and a name with items
 abbrev pub kind_of : Described → Token → List Atom → Token → List Token → Option ℕ
-kind_of cat v ls n ts = or_else (kind_in cat v ls) (kind_among v (kinds_at cat n) 0 ts)
+kind_of cat v ls n ts = option_or (kind_in cat v ls) (kind_among v (kinds_at cat n) 0 ts)
 
 -- Causes of refusal, form and length aside: the token that comes behind the part.
 pub data Cause (cat : Described) : Part → Token → Refusal → Type 0 where
