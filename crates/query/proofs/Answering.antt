@@ -29,7 +29,7 @@ use Rattle.query.specs.Rules.{Atom, items, items_in, commas, arrow, write_litera
 use Rattle.query.specs.Reading.{steps, ReadAt, Tied}
 use Rattle.query.specs.Ends.{FirstMissing, places, tokens_of}
 use Rattle.query.specs.Texts.{Written, Missing, QueryRefused, QueryAccepted}
-use Rattle.query.proofs.Laws.{lawful}
+use Rattle.query.proofs.Laws.{have_more, lawful}
 use Rattle.query.proofs.Growing.{option_or-None, kind_in_there, occurs_there}
 use Rattle.query.proofs.Placing.{splits}
 
@@ -158,15 +158,11 @@ module _ (cat : Described) (text : List ℕ) (d : Draft) (h : Atom) (ls : List A
     occur [] f g = refl
     occur (x ∷ xs) f g = rw (occurs_there cat vs x ms f.0 g.0) (occur xs f.1 g.1)
 
-    have_all : (xs : List Token) (x : Token) → Have is_variable xs → is_variable x ≡ true → Have is_variable (xs ++ x ∷ [])
-    have_all [] x f e = (e, tt)
-    have_all (y ∷ xs) x f e = (f.0, have_all xs x f.1 e)
-
     pub is_sound : sound cat.columns d.variables.used (held d.head) (map plain_literal (held d.literals)) ≡ true
     is_sound =
         let count : length vs ≡ d.variables.used = ap length (sym read.variables) ∙ names_length d.variables ∙ length_held d.variables in
         let fit : all_fitting cat.columns d.variables.used (map plain_literal (held d.literals)) ≡ true = subst (λ (n : ℕ). all_fitting cat.columns n (map plain_literal (held d.literals)) ≡ true) count read.fitting in
-        let occ : all_occur (held d.head) (map plain_literal (held d.literals)) ≡ true = (let q = occur (items h) (have_all h.front h.last acc.good.0.0.fronts acc.good.0.0.lasts) all_there in rw (read.head, read.literals) q) in
+        let occ : all_occur (held d.head) (map plain_literal (held d.literals)) ≡ true = (let q = occur (items h) (have_more is_variable h.front h.last acc.good.0.0.fronts acc.good.0.0.lasts) all_there in rw (read.head, read.literals) q) in
         rw fit occ
 
     pub is_accepted : QueryAccepted cat text h ms

@@ -19,7 +19,7 @@ use Rattle.query.specs.Rules.{Atom, commas, write_atom, write_literals, arrow, w
 use Rattle.query.specs.Reading.{fits, atom_of, next, stray, over, mixed, large, refusal, wrong, steps}
 
 -- one more at the end
-have_more : (f : Token → Bool) (ts : List Token) (t : Token) → Have f ts → f t ≡ true → Have f (ts ++ t ∷ [])
+pub have_more : (f : Token → Bool) (ts : List Token) (t : Token) → Have f ts → f t ≡ true → Have f (ts ++ t ∷ [])
 have_more f [] t g e = (e, tt)
 have_more f (x ∷ ts) t g e = (g.0, have_more f ts t g.1 e)
 
