@@ -2,6 +2,7 @@
 use Rattle.std.proofs.Common.{◌≡◌, ℕ, zero, suc, ◌+◌, ◌*◌, ◌<◌, ◌≤◌, Bool, true, false, ◌||◌, ◌⊎◌, List, [], ◌∷◌, ◌++◌, map, length, get_or, take, is_some, Some, None, Ok, Err, sym, refl, ap, ◌∙◌, subst, inl, inr, arith}
 use Rattle.std.specs.Str.{bytes_eq}
 use Rattle.std.proofs.lemmas.List.{length-take-le}
+use Rattle.std.proofs.lemmas.Bool.{both_ways, cases_Bool}
 use Rattle.faults.specs.declared.refusal.Refusal.TheVariants.{HeadVariableMissing}
 use Rattle.lexing.specs.Tokens.{Token}
 use Rattle.lexing.specs.Names.{among, number_of, numbers, AllAmong}
@@ -10,7 +11,6 @@ use Rattle.lexing.specs.Lists.{names}
 use Rattle.lexing.specs.declared.flaw.Flaw.{Flaw}
 use Rattle.lexing.specs.Grammars.{Accepted}
 use Rattle.lexing.specs.Readers.{HasRead}
-use Rattle.lexing.proofs.Bools.{which, clash}
 use Rattle.lexing.proofs.Naming.{same_is, numbers_at, numbers_length}
 use Rattle.bounded.proofs.Holding.{length_held}
 use Rattle.lexing.proofs.Holding.{names_length}
@@ -44,7 +44,7 @@ front_from [] ys (suc i) h f = tt
 front_from (x ∷ xs) ys (suc i) h f = (f 0 (omega arith), front_from xs ys i (omega arith) (λ k w. f (suc k) (omega arith)))
 
 pub all_through : (t : Token) (xs ys : List Token) → AllAmong xs ys → among t xs ≡ true → among t ys ≡ true
-all_through t [] ys a e = absurd (clash e refl)
+all_through t [] ys a e = absurd (both_ways _ refl e)
 all_through t (x ∷ xs) ys a e = go (bytes_eq t x) refl e (all_through t xs ys a.1)
   where
     go : (b : Bool) → bytes_eq t x ≡ b → (b || among t xs) ≡ true → (among t xs ≡ true → among t ys ≡ true) → among t ys ≡ true
@@ -60,7 +60,7 @@ pub record FirstAbsent (xs ys : List Token) : Type 0 where
 
 pub first_absent : (xs ys : List Token) → AllAmong xs ys ⊎ FirstAbsent xs ys
 first_absent [] ys = inl tt
-first_absent (x ∷ xs) ys = go (which (among x ys)) (first_absent xs ys)
+first_absent (x ∷ xs) ys = go (cases_Bool (among x ys)) (first_absent xs ys)
   where
     here : (k : ℕ) → among x ys ≡ true → (f : FirstAbsent xs ys) → k < suc f.place → among (get_or (x ∷ xs) k []) ys ≡ true
     here zero e f h = e
@@ -118,7 +118,7 @@ absent cat text h before last ls acc i inside gone others =
 
 -- a whole query has a head
 pub headed : (cat : Described) (text : List ℕ) (us : List Atom) (a : Atom) → Accepted (queries cat) text (stopped us a) → (h : Atom) × (ls : List Atom) × (us ≡ h ∷ ls)
-headed cat text [] a acc = absurd (clash acc.good.2 refl)
+headed cat text [] a acc = absurd (both_ways _ refl acc.good.2)
 headed cat text (h ∷ ls) a acc = (h, ls, refl)
 
 have_at : (f : Token → Bool) (xs : List Token) (x : Token) (k : ℕ) → Have f xs → f x ≡ true → k < length (xs ++ x ∷ []) → f (get_or (xs ++ x ∷ []) k []) ≡ true
@@ -194,12 +194,12 @@ module _ (c : Catalogue) (text : List ℕ) where
     whole_query = go has.1.0 (accepted_so (queries cat) (steps cat) (lawful cat) text has.1.0 has.1.1 has.0) has.1.2.read
       where
         go : (p : Part) → Accepted (queries cat) text p → ReadAt cat r.draft p → WholeQuery
-        go (wanted us) acc read = absurd (clash acc.complete refl)
-        go (named us n) acc read = absurd (clash acc.complete refl)
-        go (due us n ts) acc read = absurd (clash acc.complete refl)
-        go (listed us n ts t) acc read = absurd (clash acc.complete refl)
-        go (closed us a) acc read = absurd (clash acc.complete refl)
-        go (stopped [] a) acc read = absurd (clash acc.good.2 refl)
+        go (wanted us) acc read = absurd (both_ways _ refl acc.complete)
+        go (named us n) acc read = absurd (both_ways _ refl acc.complete)
+        go (due us n ts) acc read = absurd (both_ways _ refl acc.complete)
+        go (listed us n ts t) acc read = absurd (both_ways _ refl acc.complete)
+        go (closed us a) acc read = absurd (both_ways _ refl acc.complete)
+        go (stopped [] a) acc read = absurd (both_ways _ refl acc.good.2)
         go (stopped (h ∷ ls) a) acc read = record { h = h; ls = ls; last = a; acc = acc; read = read }
 
     pub missing_so : (i place : ℕ) → FirstMissing (held r.draft.head) r.draft.kinds.cells (Some i) → place ≡ get_or (places (tokens_of text)) (2 * i + 2) 0 → QueryRefused cat text HeadVariableMissing place

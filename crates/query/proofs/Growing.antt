@@ -3,9 +3,9 @@ use Rattle.std.proofs.Common.{◌≡◌, ℕ, suc, ◌+◌, ◌<◌, ◌≤◌, 
 use Rattle.std.specs.Option.{option_or}
 use Rattle.std.specs.Str.{bytes_eq}
 use Rattle.std.proofs.lemmas.List.{get_or-set_same, get_or-set_other, length-map}
+use Rattle.std.proofs.lemmas.Bool.{both_ways, cases_Bool, and_parts}
 use Rattle.lexing.specs.Tokens.{Token}
 use Rattle.lexing.specs.Names.{among, number_of, with_name, first_seen, AllAmong}
-use Rattle.lexing.proofs.Bools.{which, clash, and_0, and_1}
 use Rattle.lexing.proofs.Naming.{same_is, seen_push, seen_all, all_among_0, all_among_1, among_append, number_kept, number_added, number_fresh, number_differs, number_below, not_among_added, length_added}
 use Rattle.catalogue.specs.Records.{Described}
 use Rattle.catalogue.specs.Plain.{PlainColumns, no_columns}
@@ -90,24 +90,24 @@ below_kept m n (variable i) h e = lt-ltb i n (let z = ltb-true i m e in omega ar
 
 all_below_kept : (m n : ℕ) (ts : List Term) → m ≤ n → all_below m ts ≡ true → all_below n ts ≡ true
 all_below_kept m n [] h e = refl
-all_below_kept m n (t ∷ ts) h e = rw (below_kept m n t h (and_0 (below m t) (all_below m ts) e)) (all_below_kept m n ts h (and_1 (below m t) (all_below m ts) e))
+all_below_kept m n (t ∷ ts) h e = rw (below_kept m n t h (and_parts (below m t) (all_below m ts) e).0) (all_below_kept m n ts h (and_parts (below m t) (all_below m ts) e).1)
 
 abbrev shaped : List PlainColumns → Literal → Bool
 shaped cols l = eqb (length l.terms) (length (get_or cols l.source no_columns).kinds)
 
 fitting_kept : (cols : List PlainColumns) (m n : ℕ) (l : Literal) → m ≤ n → fitting cols m l ≡ true → fitting cols n l ≡ true
 fitting_kept cols m n l h e =
-    let a = and_0 (ltb l.source (length cols)) (shaped cols l && all_below m l.terms) e in
-    let b = and_1 (ltb l.source (length cols)) (shaped cols l && all_below m l.terms) e in
-    rw (a, and_0 (shaped cols l) (all_below m l.terms) b) (all_below_kept m n l.terms h (and_1 (shaped cols l) (all_below m l.terms) b))
+    let a = (and_parts (ltb l.source (length cols)) (shaped cols l && all_below m l.terms) e).0 in
+    let b = (and_parts (ltb l.source (length cols)) (shaped cols l && all_below m l.terms) e).1 in
+    rw (a, (and_parts (shaped cols l) (all_below m l.terms) b).0) (all_below_kept m n l.terms h (and_parts (shaped cols l) (all_below m l.terms) b).1)
 
 pub all_fitting_kept : (cols : List PlainColumns) (m n : ℕ) (ls : List Literal) → m ≤ n → all_fitting cols m ls ≡ true → all_fitting cols n ls ≡ true
 all_fitting_kept cols m n [] h e = refl
-all_fitting_kept cols m n (l ∷ ls) h e = rw (fitting_kept cols m n l h (and_0 (fitting cols m l) (all_fitting cols m ls) e)) (all_fitting_kept cols m n ls h (and_1 (fitting cols m l) (all_fitting cols m ls) e))
+all_fitting_kept cols m n (l ∷ ls) h e = rw (fitting_kept cols m n l h (and_parts (fitting cols m l) (all_fitting cols m ls) e).0) (all_fitting_kept cols m n ls h (and_parts (fitting cols m l) (all_fitting cols m ls) e).1)
 
 pub all_fitting_push : (cols : List PlainColumns) (n : ℕ) (ls : List Literal) (l : Literal) → all_fitting cols n ls ≡ true → fitting cols n l ≡ true → all_fitting cols n (ls ++ l ∷ []) ≡ true
 all_fitting_push cols n [] l e f = rw f refl
-all_fitting_push cols n (x ∷ ls) l e f = rw (and_0 (fitting cols n x) (all_fitting cols n ls) e) (all_fitting_push cols n ls l (and_1 (fitting cols n x) (all_fitting cols n ls) e) f)
+all_fitting_push cols n (x ∷ ls) l e f = rw (and_parts (fitting cols n x) (all_fitting cols n ls) e).0 (all_fitting_push cols n ls l (and_parts (fitting cols n x) (all_fitting cols n ls) e).1 f)
 
 terms_below : (vs ts : List Token) → AllAmong (variables_of ts) vs → all_below (length vs) (map (term_of vs) ts) ≡ true
 terms_below vs [] a = refl
@@ -159,10 +159,10 @@ pub kind_closed : (cat : Described) (v : Token) (ls : List Atom) (a : Atom) → 
 kind_closed cat v ls a = sym (option_or-None (kind_in cat v (ls ++ a ∷ [])) ∙ kind_in_push cat v ls a)
 
 pub kind_same : (cat : Described) (v : Token) (ls : List Atom) (n : Token) (ts : List Token) (t : Token) → is_variable v ≡ true → is_variable t ≡ false → kind_of cat v ls n (ts ++ t ∷ []) ≡ kind_of cat v ls n ts
-kind_same cat v ls n ts t e f = kind_of_push cat v ls n ts t ∙ go (which (bytes_eq v t))
+kind_same cat v ls n ts t e f = kind_of_push cat v ls n ts t ∙ go (cases_Bool (bytes_eq v t))
   where
     go : (bytes_eq v t ≡ true) ⊎ (bytes_eq v t ≡ false) → option_or (kind_of cat v ls n ts) (cond (bytes_eq v t) (Some (get_or (kinds_at cat n) (length ts) 0)) None) ≡ kind_of cat v ls n ts
-    go (inl s) = absurd (clash (subst (λ (x : Token). is_variable x ≡ true) (same_is v t s) e) f)
+    go (inl s) = absurd (both_ways _ f (subst (λ (x : Token). is_variable x ≡ true) (same_is v t s) e))
     go (inr s) = rw s (option_or-None (kind_of cat v ls n ts))
 
 -- the noted kinds of variables
@@ -173,7 +173,7 @@ abbrev pub Unused : List (Option ℕ) → List Token → Type 0
 Unused cells vs = (j : ℕ) → length vs ≤ j → get_or cells j None ≡ None
 
 pub kinds_grown : (cells : List (Option ℕ)) (vs : List Token) (t : Token) (kind : Token → Option ℕ) → KindsAre cells vs kind → Unused cells vs → KindsAre cells (with_name vs t) kind
-kinds_grown cells vs t kind k u v e = go (which (among v vs)) (which (bytes_eq v t))
+kinds_grown cells vs t kind k u v e = go (cases_Bool (among v vs)) (cases_Bool (bytes_eq v t))
   where
     go : (among v vs ≡ true) ⊎ (among v vs ≡ false) → (bytes_eq v t ≡ true) ⊎ (bytes_eq v t ≡ false) → get_or cells (number_of v (with_name vs t)) None ≡ kind v
     go (inl a) s = ap (λ (n : ℕ). get_or cells n None) (number_kept v vs t a) ∙ k v e
@@ -187,7 +187,7 @@ unused_grown cells vs t u j h = u j (let z = length_added vs t in omega arith)
 
 pub kinds_noted : (cells : List (Option ℕ)) (vs : List Token) (t : Token) (k : ℕ) (kind : Token → Option ℕ) → number_of t vs < length cells → among t vs ≡ true → is_variable t ≡ true → KindsAre cells vs kind →
     KindsAre (noted cells (number_of t vs) k (get_or cells (number_of t vs) None)) vs (λ v. option_or (kind v) (cond (bytes_eq v t) (Some k) None))
-kinds_noted cells vs t k kind room there form ks v e = go (which (bytes_eq v t)) (get_or cells (number_of t vs) None) refl
+kinds_noted cells vs t k kind room there form ks v e = go (cases_Bool (bytes_eq v t)) (get_or cells (number_of t vs) None) refl
   where
     i : ℕ
     i = number_of t vs
@@ -232,7 +232,7 @@ kind_in_there cat v (l ∷ ls) =
 
 -- a variable that stands in a literal occurs there by its number
 occurs_term : (vs : List Token) (v : Token) (ts : List Token) → is_variable v ≡ true → among v ts ≡ true → occurs_in (number_of v vs) (map (term_of vs) ts) ≡ true
-occurs_term vs v [] e a = absurd (clash a refl)
+occurs_term vs v [] e a = absurd (both_ways _ refl a)
 occurs_term vs v (t ∷ ts) e a = go (bytes_eq v t) refl a (occurs_term vs v ts e)
   where
     go : (b : Bool) → bytes_eq v t ≡ b → (b || among v ts) ≡ true → (among v ts ≡ true → occurs_in (number_of v vs) (map (term_of vs) ts) ≡ true) → (is_variable_of (number_of v vs) (term_of vs t) || occurs_in (number_of v vs) (map (term_of vs) ts)) ≡ true
@@ -244,7 +244,7 @@ occurs_term vs v (t ∷ ts) e a = go (bytes_eq v t) refl a (occurs_term vs v ts 
         by false z = z
 
 pub occurs_there : (cat : Described) (vs : List Token) (v : Token) (ls : List Atom) → is_variable v ≡ true → among v (items_in ls) ≡ true → occurs (number_of v vs) (map (literal_of cat vs) ls) ≡ true
-occurs_there cat vs v [] e a = absurd (clash a refl)
+occurs_there cat vs v [] e a = absurd (both_ways _ refl a)
 occurs_there cat vs v (l ∷ ls) e a = go (among v (items l)) refl (sym (among_append v (items l) (items_in ls)) ∙ a) (occurs_there cat vs v ls e)
   where
     go : (b : Bool) → among v (items l) ≡ b → (among v (items l) || among v (items_in ls)) ≡ true → (among v (items_in ls) ≡ true → occurs (number_of v vs) (map (literal_of cat vs) ls) ≡ true) →

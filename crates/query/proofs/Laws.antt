@@ -1,7 +1,7 @@
 -- The steps of the reader go along with the grammar of queries.
 use Rattle.std.proofs.Common.{◌≡◌, ℕ, ◌≤◌, Bool, true, false, cond, not, ◌&&◌, eqb, ltb, leb, ◌⊎◌, List, [], ◌∷◌, ◌++◌, length, get_or, Some, None, Option, sym, refl, ap, ◌∙◌, subst, inl, inr, append_assoc, append-nil, arith, ltb-true, lt-ltb, ne_eqb, le-leb, leb-true}
 use borrow.Author.Tests.{not-true, eqb-false}
-use Rattle.std.proofs.lemmas.Bool.{or_cases, or_left, or_right, and_parts, and_from}
+use Rattle.std.proofs.lemmas.Bool.{or_cases, or_left, or_right, and_parts, and_from, both_ways}
 use Rattle.faults.specs.declared.refusal.Refusal.{Refusal}
 use Rattle.faults.specs.declared.refusal.Refusal.TheVariants.{QueryForm, UnfitLiteral, QueryLimit, VariableInTwoKinds, ConstantTooLarge}
 use Rattle.faults.specs.Refusals.{number}
@@ -9,7 +9,7 @@ use Rattle.lexing.specs.Classes.{class}
 use Rattle.lexing.specs.Tokens.{Token, is}
 use Rattle.lexing.specs.Lists.{crowded}
 use Rattle.lexing.specs.Names.{is_name, among}
-use Rattle.lexing.proofs.Bools.{clash, and_0, and_1, is_it, one_of_two}
+use Rattle.lexing.proofs.Bools.{is_it, one_of_two}
 use Rattle.lexing.proofs.Naming.{same_is, same_self}
 use Rattle.lexing.proofs.Course.{Lawful, Decoder, runs, after}
 use Rattle.catalogue.specs.Records.{Described}
@@ -67,7 +67,7 @@ shown_next (closed (h ∷ ls) a) t rest e = go (one_of_two 44 46 t e)
     go : (is 44 t ≡ true) ⊎ ((is 44 t ≡ false) × (t ≡ 46 ∷ [])) → shown (cond (is 44 t) (wanted (h ∷ (ls ++ a ∷ []))) (stopped (h ∷ ls) a)) rest ≡ shown (closed (h ∷ ls) a) (t ∷ rest)
     go (inl i) = rw i (ap (λ (r : List Token). write_atom h (arrow ∷ r)) (literals_more ls a rest) ∙ ap (λ (y : Token). shown (closed (h ∷ ls) a) (y ∷ rest)) (sym (is_it 44 t i)))
     go (inr i) = rw i.0 (ap (λ (y : Token). shown (closed (h ∷ ls) a) (y ∷ rest)) (sym i.1))
-shown_next (stopped us a) t rest e = absurd (clash e refl)
+shown_next (stopped us a) t rest e = absurd (both_ways _ refl e)
 
 -- what goes along with the parts goes along with what is shown
 module _ {X : Type 0} (F : Part → List Token → X) (law : (p : Part) (t : Token) (ts : List Token) → fits p t ≡ true → F p (t ∷ ts) ≡ F (next p t) ts) where
@@ -101,7 +101,7 @@ module _ {X : Type 0} (F : Part → List Token → X) (law : (p : Part) (t : Tok
   along (due us n ts) rest g = along_atoms us _ g.0 ∙ to_due us n ts rest g.1 g.2
   along (listed us n ts x) rest g = along_atoms us _ g.0 ∙ to_due us n ts _ g.1 g.2 ∙ law (due us n ts) x rest g.3
   along (closed us a) rest g = along_atoms us _ g.0 ∙ to_closed us a rest g.1
-  along (stopped [] a) rest g = absurd (clash g.2 refl)
+  along (stopped [] a) rest g = absurd (both_ways _ refl g.2)
   along (stopped (h ∷ ls) a) rest g = along_atoms (h ∷ ls) _ g.0 ∙ to_closed (h ∷ ls) a _ g.1 ∙ law (closed (h ∷ ls) a) (46 ∷ []) rest refl
 
 -- what is shown stands in front
@@ -156,64 +156,64 @@ ending (stopped us a) g = ([], refl, refl)
 -- what is wrong has a cause, and every cause is found
 module _ (cat : Described) where
   stray_cause : (p : Part) (t : Token) → stray cat p t ≡ true → Cause cat p t UnfitLiteral
-  stray_cause (wanted []) t e = absurd (clash e refl)
+  stray_cause (wanted []) t e = absurd (both_ways _ refl e)
   stray_cause (wanted (h ∷ ls)) t e = unknown_source h ls t (not-true (among t cat.names) e)
-  stray_cause (named us n) t e = absurd (clash e refl)
-  stray_cause (due [] n ts) t e = absurd (clash e refl)
+  stray_cause (named us n) t e = absurd (both_ways _ refl e)
+  stray_cause (due [] n ts) t e = absurd (both_ways _ refl e)
   stray_cause (due (h ∷ ls) n ts) t e = term_too_many h ls n ts t (leb-true (length (kinds_at cat n)) (length ts) e)
-  stray_cause (listed [] n ts x) t e = absurd (clash e refl)
+  stray_cause (listed [] n ts x) t e = absurd (both_ways _ refl e)
   stray_cause (listed (h ∷ ls) n ts x) t e =
       let z = and_parts (is 41 t) (ltb (length (ts ++ x ∷ [])) (length (kinds_at cat n))) e in
       subst (λ (y : Token). Cause cat (listed (h ∷ ls) n ts x) y UnfitLiteral) (sym (is_it 41 t z.0)) (closed_early h ls n ts x (ltb-true (length (ts ++ x ∷ [])) (length (kinds_at cat n)) z.1))
-  stray_cause (closed us a) t e = absurd (clash e refl)
-  stray_cause (stopped us a) t e = absurd (clash e refl)
+  stray_cause (closed us a) t e = absurd (both_ways _ refl e)
+  stray_cause (stopped us a) t e = absurd (both_ways _ refl e)
 
   crowd_cause : (us : List Atom) (n : Token) (ts : List Token) (t : Token) → (is_variable t && crowded t (known us ts)) ≡ true → Cause cat (due us n ts) t QueryLimit
-  crowd_cause us n ts t e = go (or_cases (ltb 16 (length t)) (not (among t (known us ts)) && leb 16 (length (known us ts))) (and_1 (is_variable t) (crowded t (known us ts)) e))
+  crowd_cause us n ts t e = go (or_cases (ltb 16 (length t)) (not (among t (known us ts)) && leb 16 (length (known us ts))) (and_parts (is_variable t) (crowded t (known us ts)) e).1)
     where
       go : (ltb 16 (length t) ≡ true) ⊎ ((not (among t (known us ts)) && leb 16 (length (known us ts))) ≡ true) → Cause cat (due us n ts) t QueryLimit
-      go (inl h) = long_variable us n ts t (and_0 (is_variable t) (crowded t (known us ts)) e) (ltb-true 16 (length t) h)
+      go (inl h) = long_variable us n ts t (and_parts (is_variable t) (crowded t (known us ts)) e).0 (ltb-true 16 (length t) h)
       go (inr h) =
           let z = and_parts (not (among t (known us ts))) (leb 16 (length (known us ts))) h in
-          seventeenth_variable us n ts t (and_0 (is_variable t) (crowded t (known us ts)) e) (not-true (among t (known us ts)) z.0) (leb-true 16 (length (known us ts)) z.1)
+          seventeenth_variable us n ts t (and_parts (is_variable t) (crowded t (known us ts)) e).0 (not-true (among t (known us ts)) z.0) (leb-true 16 (length (known us ts)) z.1)
 
   over_cause : (p : Part) (t : Token) → over p t ≡ true → Cause cat p t QueryLimit
   over_cause (wanted []) t e = long_head t (ltb-true 16 (length t) e)
   over_cause (wanted (h ∷ ls)) t e = ninth_literal h ls t (leb-true 8 (length ls) e)
-  over_cause (named us n) t e = absurd (clash e refl)
+  over_cause (named us n) t e = absurd (both_ways _ refl e)
   over_cause (due [] n ts) t e = elim (or_cases (leb 4 (length ts)) (is_variable t && crowded t (known [] ts)) e) [ inl h ↦ fifth_head_variable n ts t (leb-true 4 (length ts) h) | inr h ↦ crowd_cause [] n ts t h ]
   over_cause (due (h ∷ ls) n ts) t e = crowd_cause (h ∷ ls) n ts t e
-  over_cause (listed us n ts x) t e = absurd (clash e refl)
-  over_cause (closed us a) t e = absurd (clash e refl)
-  over_cause (stopped us a) t e = absurd (clash e refl)
+  over_cause (listed us n ts x) t e = absurd (both_ways _ refl e)
+  over_cause (closed us a) t e = absurd (both_ways _ refl e)
+  over_cause (stopped us a) t e = absurd (both_ways _ refl e)
 
   mixed_cause : (p : Part) (t : Token) → mixed cat p t ≡ true → Cause cat p t VariableInTwoKinds
-  mixed_cause (wanted us) t e = absurd (clash e refl)
-  mixed_cause (named us n) t e = absurd (clash e refl)
-  mixed_cause (due [] n ts) t e = absurd (clash e refl)
-  mixed_cause (due (h ∷ ls) n ts) t e = go (kind_of cat t ls n ts) refl (and_1 (is_variable t) (other_kind (kind_of cat t ls n ts) (get_or (kinds_at cat n) (length ts) 0)) e)
+  mixed_cause (wanted us) t e = absurd (both_ways _ refl e)
+  mixed_cause (named us n) t e = absurd (both_ways _ refl e)
+  mixed_cause (due [] n ts) t e = absurd (both_ways _ refl e)
+  mixed_cause (due (h ∷ ls) n ts) t e = go (kind_of cat t ls n ts) refl (and_parts (is_variable t) (other_kind (kind_of cat t ls n ts) (get_or (kinds_at cat n) (length ts) 0)) e).1
     where
       go : (o : Option ℕ) → kind_of cat t ls n ts ≡ o → other_kind o (get_or (kinds_at cat n) (length ts) 0) ≡ true → Cause cat (due (h ∷ ls) n ts) t VariableInTwoKinds
-      go None f k = absurd (clash k refl)
-      go (Some j) f k = two_kinds h ls n ts t j (and_0 (is_variable t) (other_kind (kind_of cat t ls n ts) (get_or (kinds_at cat n) (length ts) 0)) e) f (eqb-false j (get_or (kinds_at cat n) (length ts) 0) (not-true (eqb j (get_or (kinds_at cat n) (length ts) 0)) k))
-  mixed_cause (listed us n ts x) t e = absurd (clash e refl)
-  mixed_cause (closed us a) t e = absurd (clash e refl)
-  mixed_cause (stopped us a) t e = absurd (clash e refl)
+      go None f k = absurd (both_ways _ refl k)
+      go (Some j) f k = two_kinds h ls n ts t j (and_parts (is_variable t) (other_kind (kind_of cat t ls n ts) (get_or (kinds_at cat n) (length ts) 0)) e).0 f (eqb-false j (get_or (kinds_at cat n) (length ts) 0) (not-true (eqb j (get_or (kinds_at cat n) (length ts) 0)) k))
+  mixed_cause (listed us n ts x) t e = absurd (both_ways _ refl e)
+  mixed_cause (closed us a) t e = absurd (both_ways _ refl e)
+  mixed_cause (stopped us a) t e = absurd (both_ways _ refl e)
 
   large_cause : (p : Part) (t : Token) → large p t ≡ true → Cause cat p t ConstantTooLarge
-  large_cause (wanted us) t e = absurd (clash e refl)
-  large_cause (named us n) t e = absurd (clash e refl)
-  large_cause (due [] n ts) t e = absurd (clash e refl)
+  large_cause (wanted us) t e = absurd (both_ways _ refl e)
+  large_cause (named us n) t e = absurd (both_ways _ refl e)
+  large_cause (due [] n ts) t e = absurd (both_ways _ refl e)
   large_cause (due (h ∷ ls) n ts) t e = let z = and_parts (is_constant t) (ltb 4294967295 (value t)) e in constant_too_large h ls n ts t z.0 (ltb-true 4294967295 (value t) z.1)
-  large_cause (listed us n ts x) t e = absurd (clash e refl)
-  large_cause (closed us a) t e = absurd (clash e refl)
-  large_cause (stopped us a) t e = absurd (clash e refl)
+  large_cause (listed us n ts x) t e = absurd (both_ways _ refl e)
+  large_cause (closed us a) t e = absurd (both_ways _ refl e)
+  large_cause (stopped us a) t e = absurd (both_ways _ refl e)
 
   found : (p : Part) (t : Token) (r : Refusal) → fits p t ≡ true → wrong cat p t ≡ Some r → Cause cat p t r
   found p t r e w = go (fits p t) (stray cat p t) (over p t) (mixed cat p t) (large p t) e refl refl refl refl w
     where
       go : (f a b c d : Bool) → f ≡ true → stray cat p t ≡ a → over p t ≡ b → mixed cat p t ≡ c → large p t ≡ d → refusal f a b c d ≡ Some r → Cause cat p t r
-      go false a b c d x y z u v k = absurd (clash x refl)
+      go false a b c d x y z u v k = absurd (both_ways _ refl x)
       go true true b c d x y z u v k = let q : UnfitLiteral ≡ r = cc in subst (Cause cat p t) q (stray_cause p t y)
       go true false true c d x y z u v k = let q : QueryLimit ≡ r = cc in subst (Cause cat p t) q (over_cause p t z)
       go true false false true d x y z u v k = let q : VariableInTwoKinds ≡ r = cc in subst (Cause cat p t) q (mixed_cause p t u)

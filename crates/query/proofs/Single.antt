@@ -1,14 +1,13 @@
 -- A query text has one answer.
 use Rattle.std.proofs.Common.{◌≡◌, ℕ, suc, ◌≤◌, true, false, leb, ◌⊎◌, List, [], ◌∷◌, ◌++◌, length, Ok, Err, sym, refl, ap, ◌∙◌, subst, inl, inr, arith, leb-false, leb-true}
 use Rattle.std.specs.Str.{bytes_eq}
-use Rattle.std.proofs.lemmas.Bool.{or_right}
+use Rattle.std.proofs.lemmas.Bool.{or_right, both_ways, cases_Bool}
 use Rattle.faults.specs.declared.refusal.Refusal.{Refusal}
 use Rattle.faults.specs.declared.refusal.Refusal.TheVariants.{HeadVariableMissing}
 use Rattle.lexing.specs.Tokens.{Token, Placed, words}
 use Rattle.lexing.specs.Names.{among, AllAmong}
 use Rattle.lexing.specs.Grammars.{Accepted, Refused, read_of, too_long}
 use Rattle.lexing.specs.Readers.{Outcome}
-use Rattle.lexing.proofs.Bools.{which, clash}
 use Rattle.lexing.proofs.Naming.{same_self}
 use Rattle.lexing.proofs.Course.{way, settled, Judged, judged, one_part, one_refusal, not_both, near, place_inside}
 use Rattle.catalogue.specs.Records.{Described}
@@ -19,11 +18,11 @@ use Rattle.query.proofs.Laws.{lawful, decoder}
 use Rattle.query.proofs.Answering.{all_through, FirstAbsent, first_absent, absent, headed}
 
 stopped_of : (p : Part) → whole p ≡ true → (us : List Atom) × (a : Atom) × (p ≡ stopped us a)
-stopped_of (wanted us) e = absurd (clash e refl)
-stopped_of (named us n) e = absurd (clash e refl)
-stopped_of (due us n ts) e = absurd (clash e refl)
-stopped_of (listed us n ts t) e = absurd (clash e refl)
-stopped_of (closed us a) e = absurd (clash e refl)
+stopped_of (wanted us) e = absurd (both_ways _ refl e)
+stopped_of (named us n) e = absurd (both_ways _ refl e)
+stopped_of (due us n ts) e = absurd (both_ways _ refl e)
+stopped_of (listed us n ts t) e = absurd (both_ways _ refl e)
+stopped_of (closed us a) e = absurd (both_ways _ refl e)
 stopped_of (stopped us a) e = (us, a, refl)
 
 words_append : (xs ys : List Placed) → words (xs ++ ys) ≡ words xs ++ words ys
@@ -44,8 +43,8 @@ same_split (x ∷ xs) (y ∷ ys) t u r s h e = let f : xs ++ t ∷ r ≡ ys ++ u
 -- two variables that stand behind the same tokens, each the first that is not among some names, have as many before them
 as_many : (es fs : List Token) (t u : Token) (r s ns : List Token) → commas es [] ++ t ∷ r ≡ commas fs [] ++ u ∷ s → AllAmong es ns → AllAmong fs ns → among t ns ≡ false → among u ns ≡ false → length (commas es []) ≡ length (commas fs [])
 as_many [] [] t u r s ns e a b c d = refl
-as_many [] (f ∷ fs) t u r s ns e a b c d = let q : t ≡ f = cc in absurd (clash b.0 (subst (λ (x : Token). among x ns ≡ false) q c))
-as_many (x ∷ es) [] t u r s ns e a b c d = let q : u ≡ x = cc in absurd (clash a.0 (subst (λ (y : Token). among y ns ≡ false) q d))
+as_many [] (f ∷ fs) t u r s ns e a b c d = let q : t ≡ f = cc in absurd (both_ways _ (subst (λ (x : Token). among x ns ≡ false) q c) b.0)
+as_many (x ∷ es) [] t u r s ns e a b c d = let q : u ≡ x = cc in absurd (both_ways _ (subst (λ (y : Token). among y ns ≡ false) q d) a.0)
 as_many (x ∷ es) (f ∷ fs) t u r s ns e a b c d =
     let q : commas es [] ++ t ∷ r ≡ commas fs [] ++ u ∷ s = cc in
     let z = as_many es fs t u r s ns q a.1 b.1 c d in omega arith
@@ -87,13 +86,13 @@ module _ (cat : Described) (text : List ℕ) where
   not_missing h ls p w all m =
       let e = sym (cut_at h ls p m) ∙ w.accepted.written in
       let f : commas m.earlier [] ++ m.token.token ∷ words m.rest ≡ commas h.front (h.last ∷ (41 ∷ []) ∷ arrow ∷ write_literals w.before (write_atom w.last ((46 ∷ []) ∷ []))) = cc in
-      clash (all_through m.token.token (items h) (items_in ls) all (in_items m.earlier h.front m.token.token h.last (words m.rest) _ f)) m.nowhere
+      both_ways _ m.nowhere (all_through m.token.token (items h) (items_in ls) all (in_items m.earlier h.front m.token.token h.last (words m.rest) _ f))
 
   written_refused : (h : Atom) (ls : List Atom) (r : Refusal) (p : ℕ) → Written cat text h ls → Refused (queries cat) text r p → ⊥
   written_refused h ls r p w a = not_both (queries cat) text (stopped (h ∷ w.before) w.last) r p w.accepted a
 
   written_short : (h : Atom) (ls : List Atom) → Written cat text h ls → length text ≤ 4096
-  written_short h ls w = go (which (leb (length text) 4096))
+  written_short h ls w = go (cases_Bool (leb (length text) 4096))
     where
       go : (leb (length text) 4096 ≡ true) ⊎ (leb (length text) 4096 ≡ false) → length text ≤ 4096
       go (inl e) = leb-true (length text) 4096 e

@@ -3,7 +3,7 @@ use Rattle.std.proofs.Common.{◌≡◌, ℕ, ◌<◌, ◌≤◌, Bool, true, fa
 use borrow.Author.Tests.{lt-leb}
 use Rattle.std.specs.Option.{option_or, ok_or}
 use Rattle.std.specs.Str.{bytes_eq}
-use Rattle.std.proofs.lemmas.Bool.{or_left, or_right}
+use Rattle.std.proofs.lemmas.Bool.{or_left, or_right, both_ways, cases_Bool}
 use Rattle.std.proofs.lemmas.List.{map_push, length-map, length_push}
 use Rattle.faults.specs.declared.refusal.Refusal.{Refusal}
 use Rattle.faults.specs.declared.refusal.Refusal.TheVariants.{QueryForm, UnfitLiteral, QueryLimit, VariableInTwoKinds, ConstantTooLarge}
@@ -12,7 +12,7 @@ use Rattle.lexing.specs.Tokens.{Token, is}
 use Rattle.lexing.specs.Names.{is_name, among, place_of, number_of, with_name, numbers}
 use Rattle.bounded.specs.Held.{held}
 use Rattle.lexing.specs.Lists.{names, crowded, Numbered}
-use Rattle.lexing.proofs.Bools.{which, clash, is_it}
+use Rattle.lexing.proofs.Bools.{is_it}
 use Rattle.lexing.proofs.Naming.{place_some, place_none, numbers_push, numbers_kept, numbers_length, number_added, all_among_kept, all_among_push, among_added, length_added}
 use Rattle.bounded.proofs.Holding.{length_held, pushed}
 use Rattle.lexing.proofs.Holding.{crowds, roomy}
@@ -85,10 +85,10 @@ rekinded q s = record {
 }
 
 pub constant_alone : (t : Token) → is_constant t ≡ true → is_variable t ≡ false
-constant_alone t e = go (which (is_variable t))
+constant_alone t e = go (cases_Bool (is_variable t))
   where
     go : (is_variable t ≡ true) ⊎ (is_variable t ≡ false) → is_variable t ≡ false
-    go (inl f) = absurd (clash e (not_both_forms t f))
+    go (inl f) = absurd (both_ways _ (not_both_forms t f) e)
     go (inr f) = f
 
 literals_count : (cat : Described) (d : Draft) (vs hd : List Token) (ls : List Atom) (k : Token → Option ℕ) → Seen cat d vs hd ls k → length (held d.literals) ≡ length ls
@@ -337,8 +337,8 @@ module _ (cat : Described) (d : Draft) (l : rl.Literal) where
             where
               not_same : (x y : Bool) → not x ≡ not y → x ≡ y
               not_same true true f = refl
-              not_same true false f = absurd (clash refl (sym f))
-              not_same false true f = absurd (clash refl f)
+              not_same true false f = absurd (both_ways _ (sym f) refl)
+              not_same false true f = absurd (both_ways _ f refl)
               not_same false false f = refl
 
           second_kind : false ≡ not (other_kind (get_or d.kinds.cells i None) kind) → wrong cat (due us n ts) t ≡ Some VariableInTwoKinds
