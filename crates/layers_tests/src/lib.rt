@@ -2,9 +2,9 @@
 #![tactic(auto)]
 
 #[cfg(test)]
-mod calls;
+mod answers;
 #[cfg(test)]
-mod listing;
+mod calls;
 #[cfg(test)]
 mod memo;
 #[cfg(test)]
