@@ -1,7 +1,8 @@
 // How calls end, in a form that tests can compare.
 use ends::{Divider, Register};
+use ends_tests::crowd::crowd;
 use source::{ANSWER_ROOM, Source};
-use std::alloc::{AllocError, Global};
+use std::alloc::Global;
 use std::test::Fail;
 
 // How many rows a call with one input answers, or the number and the layer of its refusal.
@@ -15,17 +16,6 @@ pub(crate) fn called<S: Source>(source: &mut S, input: u32) -> Result<usize, (u8
 // A divider of 1,000.
 pub(crate) fn divider() -> Result<Divider, Fail> {
     Divider::new(1000).map_err(|_| Fail::new("no divider"))
-}
-
-// The file of a register that has so many rows for the input 1.
-fn crowd(heap: Global, rows: u8) -> Result<Vec<u8>, AllocError> {
-    let mut bytes = Vec::new(heap);
-    bytes.extend_from_slice(&[2, 1, rows])?;
-    for i in 0..rows {
-        bytes.push(1)?;
-        bytes.push(i)?;
-    }
-    Ok(bytes)
 }
 
 // A register that has so many rows for the input 1.
