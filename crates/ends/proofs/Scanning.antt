@@ -11,7 +11,8 @@ use Rattle.source.proofs.Rows.{same_eq, eq_same, before_irrefl}
 use Rattle.source.proofs.Matching.{matching_append}
 use Rattle.files.specs.Held.{cut}
 use Rattle.files.proofs.Holding.{flat_push}
-use Rattle.ends.specs.Lookup.{found, Below, Beyond, Written}
+use Rattle.source.specs.Rows.{Written}
+use Rattle.ends.specs.Lookup.{found, Below, Beyond}
 use Rattle.ends.proofs.Searching.{earlier_before, front_cases, length_cut, false_from}
 
 -- Given columns that stand first.

@@ -1,7 +1,7 @@
 -- Rows in cells of four, and how they lie around a list of inputs.
-use Rattle.std.specs.Prelude.{◌≡◌, ℕ, ◌<◌, ◌≤◌, Bool, true, false, List, [], ◌++◌, length, take, drop, slice_index_or, ◌==◌}
+use Rattle.std.specs.Prelude.{◌≡◌, ℕ, ◌<◌, ◌≤◌, Bool, true, false, List, [], length, take, slice_index_or, ◌==◌}
 use Rattle.source.specs.declared.mark.Mark.{Mark}
-use Rattle.source.specs.Rows.{before, flat}
+use Rattle.source.specs.Rows.{before}
 use Rattle.source.specs.Marks.{inputs_of, matching}
 use Rattle.files.specs.Held.{cut}
 
@@ -20,7 +20,3 @@ Below rows inputs place = (j : ℕ) → j < place → before (take (length input
 -- no row from the place on comes before the inputs in its first columns
 abbrev pub Beyond : List (List ℕ) → List ℕ → ℕ → Type 0
 Beyond rows inputs place = (j : ℕ) → place ≤ j → j < length rows → before (take (length inputs) (slice_index_or rows j [])) inputs ≡ false
-
--- the rows stand without gaps from the start of the memory, and the rest of it is as before
-abbrev pub Written : List (List ℕ) → List ℕ → List ℕ → Type 0
-Written rows memory memory' = memory' ≡ flat rows ++ drop (length (flat rows)) memory

@@ -1,8 +1,9 @@
 // Looking rows up by their inputs in a table, whose rows ascend.
 ghost use Rattle.std.specs.Prelude.{◌≡◌, ◌+◌, ◌≤◌, true, [], ◌++◌, length, take, drop};
+ghost use Rattle.source.specs.Rows.{Written};
 ghost use Rattle.source.specs.Marks.{inputs_of};
 ghost use Rattle.files.specs.Tables.{table_marks, table_rows, table_cells};
-ghost use Rattle.ends.specs.Lookup.{found, leads, Beyond, Written};
+ghost use Rattle.ends.specs.Lookup.{found, leads, Beyond};
 
 use files::Table;
 use source::values::{comes_before, count_inputs, holds_inputs};
