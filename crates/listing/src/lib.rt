@@ -99,26 +99,23 @@ impl<'m> AnswerList<'m> {
         }
     }
 
-    // The list with an answer more, if it is not listed yet, or with the note that there is no
-    // place for it.
-    pub fn with(self, answer: &[u32; 4]) -> AnswerList<'m>
+    // Adds an answer, if it is not listed yet, or notes that there is no place for it.
+    pub fn add(&mut self, answer: &[u32; 4])
+        ensures lender { self.new.memory.ghost_name ≡ self.old.memory.ghost_name }
+        ensures added { Added answer.now (listing_of self.old) (listing_of self.new) }
+    {
+        if let Some(count) = self.listed {
+            self.listed = insert(self.memory, self.places, count, answer);
+        }
+    }
+
+    // The list with an answer more, as `add` leaves it.
+    pub fn with(mut self, answer: &[u32; 4]) -> AnswerList<'m>
         ensures lender { result.memory.ghost_name ≡ self.entry.memory.ghost_name }
         ensures added { Added answer.now (listing_of self.entry) (listing_of result) }
     {
-        let Some(count) = self.listed else {
-            return self;
-        };
-        let AnswerList {
-            memory,
-            places,
-            listed: _,
-        } = self;
-        let listed = insert(memory, places, count, answer);
-        AnswerList {
-            memory,
-            places,
-            listed,
-        }
+        self.add(answer);
+        self
     }
 
     // Gives the memory back, and says how many answers are listed; nothing where one found no
