@@ -16,6 +16,18 @@ fn answers_stand_once_each_and_ascend(rt: HostRuntime) -> Result<(), Fail> {
 }
 
 #[test]
+fn answers_are_added_one_by_one(rt: HostRuntime) -> Result<(), Fail> {
+    let mut memory = [9; 9];
+    let mut list = AnswerList::over(&mut memory);
+    for answer in &[[3, 0, 0, 1], [1, 0, 0, 2], [3, 0, 0, 1]] {
+        list.add(answer);
+    }
+    assert_eq!(rt; list.close(), Some(2));
+    assert_eq!(rt; memory, [1, 0, 0, 2, 3, 0, 0, 1, 9]);
+    Ok(())
+}
+
+#[test]
 fn one_too_many_is_told_to_the_end(rt: HostRuntime) -> Result<(), Fail> {
     let mut memory = [7; 9];
     let list = AnswerList::over(&mut memory)
