@@ -57,10 +57,6 @@ memoized es m = record {
   steady = m.steady;
 }
 
--- the rows stand without gaps from the start of the memory, and the rest of it is as before
-abbrev pub Writes : List (List ℕ) → List ℕ → List ℕ → Type 0
-Writes rows memory memory' = memory' ≡ flat rows ++ drop (length (flat rows)) memory
-
 -- the table with another entry in its next empty place; the others are as they were
 abbrev pub with_next : Table → Entry → Table
 with_next t e = record { entries = with_item t.entries t.used e; used = t.used }

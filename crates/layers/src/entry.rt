@@ -23,7 +23,8 @@ pub struct Entry {
 }
 
 impl Entry {
-    ghost use Rattle.layers.specs.Memory.{kept, from_memory, Writes};
+    ghost use Rattle.source.specs.Rows.{Written};
+    ghost use Rattle.layers.specs.Memory.{kept, from_memory};
 
     // An entry that is not filled.
     pub(crate) fn empty() -> Entry
@@ -57,7 +58,7 @@ impl Entry {
     pub(crate) fn write(&self, memory: &mut [u32]) -> usize
         requires { length (held self.now.values) ≤ length memory.old }
         ensures count { result ≡ length (kept self.now).rows }
-        ensures written { Writes (kept self.now).rows memory.old memory.new }
+        ensures written { Written (kept self.now).rows memory.old memory.new }
     {
         let values = self.values.as_slice();
         memory[..values.len()].copy_from_slice(values);

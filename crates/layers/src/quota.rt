@@ -1,8 +1,7 @@
 ghost use Rattle.std.specs.Prelude.{◌≡◌, ◌+◌, ◌-◌, ◌≤◌, min, is_ok, if◌then◌else◌};
 ghost use Rattle.source.specs.Calls.{Called, PassedOn};
-ghost use Rattle.layers.specs.Limits.{limited};
+ghost use Rattle.layers.specs.Limits.{limited, units_max};
 ghost use Rattle.layers.specs.Limiting;
-ghost use Rattle.layers.specs.declared.quota.TheConstants.{UNITS_MAX};
 
 use faults::{Fault, Refusal};
 use source::{Mark, Source, admit};
@@ -15,14 +14,14 @@ pub const UNITS_MAX: u32 = 1_000_000;
 pub struct Quota<S: Source> {
     below: S,
     units: u32,
-    ghost few: { units ≤ UNITS_MAX },
+    ghost few: { units ≤ units_max },
 }
 
 impl<S: Source> Quota<S> {
     // Of the units given, those past the most are lost.
     pub fn new(below: S, units: u32) -> Quota<S>
         ensures below { result.below ≡ below }
-        ensures units { result.units ≡ min units UNITS_MAX }
+        ensures units { result.units ≡ min units units_max }
     {
         let units = units.min(UNITS_MAX);
         Quota { below, units }
@@ -30,7 +29,7 @@ impl<S: Source> Quota<S> {
 
     // Adds units, and returns how many were added: those past the most are lost.
     pub fn add(&mut self, units: u32) -> u32
-        ensures value { result ≡ min units (UNITS_MAX - self.old.units) }
+        ensures value { result ≡ min units (units_max - self.old.units) }
         ensures units { self.new.units ≡ self.old.units + result }
         ensures below { self.new.below ≡ self.old.below }
     {
