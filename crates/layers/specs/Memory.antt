@@ -1,9 +1,9 @@
 -- What a memo remembers, and what it means.
-use Rattle.std.specs.Prelude.{◌≡◌, ℕ, ◌+◌, Bool, cond, ◌&&◌, List, [], ◌∷◌, ◌++◌, map, length, take, drop, Some, None, Ok, Err, vec_items, vec_len, MatchBool, Option, Result, MatchOption, nat_le, nat_lt, slice_set}
+use Rattle.std.specs.Prelude.{◌≡◌, ℕ, ◌+◌, Bool, cond, ◌&&◌, List, [], ◌∷◌, map, length, take, Some, None, Ok, Err, vec_items, vec_len, MatchBool, Option, Result, MatchOption, nat_le, nat_lt, slice_set}
 use Rattle.faults.specs.declared.fault.Fault.{Fault}
 use Rattle.std.specs.Vec.{with_item}
 use Rattle.source.specs.declared.mark.Mark.{Mark}
-use Rattle.source.specs.Rows.{same, is_in, flat, rows_in}
+use Rattle.source.specs.Rows.{same, is_in, rows_in}
 use Rattle.source.specs.Marks.{picked, same_marks}
 use Rattle.source.specs.Meaning.{Bar, clear, Meaning, raised_bar}
 use Rattle.source.specs.Calls.{PassedOn}

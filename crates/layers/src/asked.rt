@@ -5,10 +5,9 @@ ghost use Rattle.bounded.specs.Held.{held};
 
 use bounded::Bounded;
 use source::Mark;
-use source::values::{same_marks, same_values};
 
 // What a source is asked: a list of inputs, under the marks of its columns.
-#[derive(Clone, Copy)]
+#[derive(Clone, Copy, PartialEq, Eq)]
 pub struct Asked {
     pub marks: Bounded<Mark, 4>,
     pub inputs: Bounded<u32, 3>,
@@ -28,12 +27,10 @@ impl Asked {
         }
     }
 
-    // Whether the same inputs ask under the same marks. This is no derived `==`, which would compare
-    // what stands in the unused places of the lists, too.
+    // Whether the same inputs ask under the same marks.
     pub(crate) fn is_same(&self, other: &Asked) -> bool
         ensures { result ≡ (same_marks (held self.now.marks) (held other.now.marks) && same (held self.now.inputs) (held other.now.inputs)) }
     {
-        same_marks(self.marks.as_slice(), other.marks.as_slice())
-            && same_values(self.inputs.as_slice(), other.inputs.as_slice())
+        self == other
     }
 }

@@ -1,9 +1,13 @@
 -- Counting and comparing the given columns, one column after another.
 use Rattle.std.proofs.Common.{◌≡◌, ℕ, suc, true, false, ◌⊎◌, List, [], ◌∷◌, length, filter, Decides, sym, refl, ap, subst, inl, inr, arith, ◌==◌}
 use Rattle.std.proofs.lemmas.Bool.{and_parts, eq-eqb, ne_eqb, and_from, false≢true}
+use Rattle.std.specs.Cmp.Lexicographic.{pointwise}
+use Rattle.std.proofs.lemmas.Slice.Eq.{slice_eq-Decides}
+use Rattle.source.specs.contracts.mark.MarkPartialEq.TheImpl as mark_equality
 use Rattle.source.specs.declared.mark.Mark.{Mark}
 use Rattle.source.specs.declared.mark.Mark.TheVariants.{Given, Free}
 use Rattle.source.specs.Rows.{same}
+use Rattle.source.proofs.Tests.{deciders_agree}
 use Rattle.source.specs.Marks.{is_given, inputs_of, picked, same_mark, same_marks}
 
 -- the given marks are as many as the inputs
@@ -72,3 +76,13 @@ same_marks_refl (m ∷ ms) = and_from (same_mark m m) (same_marks ms ms) (same_m
 
 pub same_marks_decides : (ms ns : List Mark) → Decides (same_marks ms ns) (ms ≡ ns)
 same_marks_decides ms ns = (same_marks_eq ms ns, λ e. subst (λ z. same_marks ms z ≡ true) e (same_marks_refl ms))
+
+-- the derived test of two lists of marks
+mark_eq_decides : (m n : Mark) → Decides ((mark_equality.eq-value).it m n) (m ≡ n)
+mark_eq_decides Given Given = ((λ _. refl), (λ _. refl))
+mark_eq_decides Given Free = ((λ e. absurd (false≢true e)), (λ e. cc))
+mark_eq_decides Free Given = ((λ e. absurd (false≢true e)), (λ e. cc))
+mark_eq_decides Free Free = ((λ _. refl), (λ _. refl))
+
+pub marks_pointwise : (ms ns : List Mark) → pointwise (mark_equality.eq-value).it ms ns ≡ same_marks ms ns
+marks_pointwise ms ns = deciders_agree _ _ (slice_eq-Decides mark_eq_decides _ _ _ refl) (same_marks_decides ms ns)

@@ -1,12 +1,18 @@
 -- Laws of the tests on rows.
-use Rattle.std.proofs.lemmas.Bool.Decides.{nat_tests}
-use Rattle.std.proofs.lemmas.Slice.Eq.{compares_Decides}
-use Rattle.std.proofs.Common.{rules, Decides, ◌≡◌, ℕ, ◌<◌, true, ◌&&◌, ◌||◌, eqb, ltb, ◌⊎◌, List, [], ◌∷◌, sym, refl, ap, subst, inl, inr, arith}
+use Rattle.std.proofs.lemmas.Bool.Decides.{nat_tests, Decides-eqb}
+use Rattle.std.proofs.lemmas.Slice.Eq.{compares_Decides, slice_eq-Decides}
+use Rattle.std.specs.Cmp.Lexicographic.{pointwise}
+use Rattle.std.proofs.Common.{rules, ◌==◌, Decides, ◌≡◌, ℕ, ◌<◌, true, ◌&&◌, ◌||◌, eqb, ltb, ◌⊎◌, List, [], ◌∷◌, sym, refl, ap, subst, inl, inr, arith}
 use Rattle.std.proofs.lemmas.Bool.{and_parts, eqb-true, or_cases, or_right, ltb-true, false≢true}
+use Rattle.source.proofs.Tests.{deciders_agree}
 use Rattle.source.specs.Rows.{same, before, is_in, ascending, leads}
 
 pub same_decides : (xs ys : List ℕ) → Decides (same xs ys) (xs ≡ ys)
 same_decides xs ys = compares_Decides same (search rules) xs ys
+
+-- the derived test of two lists of values
+pub values_pointwise : (xs ys : List ℕ) → pointwise ◌==◌ xs ys ≡ same xs ys
+values_pointwise xs ys = deciders_agree _ _ (slice_eq-Decides Decides-eqb _ _ _ refl) (same_decides xs ys)
 
 pub same_eq : (xs ys : List ℕ) → same xs ys ≡ true → xs ≡ ys
 same_eq xs ys = (same_decides xs ys).0
