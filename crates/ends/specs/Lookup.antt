@@ -10,8 +10,8 @@ abbrev pub found : List Mark → List ℕ → List (List ℕ) → List (List ℕ
 found marks inputs cells = matching marks inputs (cut (length marks) cells)
 
 -- whether the given columns, one for each of the inputs, stand before the free ones
-abbrev pub leads : List Mark → List ℕ → Bool
-leads marks inputs = inputs_of (take (length inputs) marks) == length inputs
+abbrev pub given_first : List Mark → List ℕ → Bool
+given_first marks inputs = inputs_of (take (length inputs) marks) == length inputs
 
 -- each row before the place comes before the inputs in its first columns
 abbrev pub Below : List (List ℕ) → List ℕ → ℕ → Type 0

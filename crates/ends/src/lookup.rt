@@ -3,7 +3,7 @@ ghost use Rattle.std.specs.Prelude.{◌≡◌, ◌+◌, ◌≤◌, true, [], ◌
 ghost use Rattle.source.specs.Rows.{Written};
 ghost use Rattle.source.specs.Marks.{inputs_of};
 ghost use Rattle.files.specs.Tables.{table_marks, table_rows, table_cells};
-ghost use Rattle.ends.specs.Lookup.{found, leads, Beyond};
+ghost use Rattle.ends.specs.Lookup.{found, given_first, Beyond};
 
 use files::Table;
 use source::values::{comes_before, count_inputs, holds_inputs};
@@ -18,20 +18,21 @@ pub(crate) struct Lookup<'a> {
 
 impl Lookup<'_> {
     // Whether the given columns stand before the free ones.
-    fn leads(&self) -> bool
-        ensures { result ≡ leads (table_marks self.now.table.now) self.now.inputs.now }
+    fn given_first(&self) -> bool
+        ensures { result ≡ given_first (table_marks self.now.table.now) self.now.inputs.now }
     {
         let given = self.inputs.len();
         count_inputs(&self.table.marks()[..given]) == given
     }
 
     // Where a scan for the inputs may begin: no row before it holds them.
-    fn start(&self) -> usize
+    fn start(&self, leads: bool) -> usize
+        requires order { leads ≡ given_first (table_marks self.now.table.now) self.now.inputs.now }
         ensures inside { result ≤ length (table_cells self.now.table.now) }
         ensures none { found (table_marks self.now.table.now) self.now.inputs.now (take result (table_cells self.now.table.now)) ≡ [] }
-        ensures beyond { leads (table_marks self.now.table.now) self.now.inputs.now ≡ true → Beyond (table_rows self.now.table.now) self.now.inputs.now result }
+        ensures beyond { given_first (table_marks self.now.table.now) self.now.inputs.now ≡ true → Beyond (table_rows self.now.table.now) self.now.inputs.now result }
     {
-        if !self.leads() {
+        if !leads {
             return 0;
         }
         let inputs = self.inputs;
@@ -48,8 +49,8 @@ impl Lookup<'_> {
         ensures written { Written (found (table_marks self.now.table.now) self.now.inputs.now (table_cells self.now.table.now)) memory.old memory.new }
     {
         let marks = self.table.marks();
-        let leads = self.leads();
-        let start = self.start();
+        let leads = self.given_first();
+        let start = self.start(leads);
         let mut count = 0;
         for cells in &self.table.rows()[start..] {
             let row = self.table.values(cells);

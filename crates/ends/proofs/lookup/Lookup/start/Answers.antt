@@ -18,7 +18,7 @@ returns c =
     let as_many = c.args.self.now.as_many in
     let place = c.partition_point.result in
     let few : length inputs ≤ length marks = omega (arith, inputs_at_most_columns marks) in
-    let leading = eqb-true (inputs_of (take (length inputs) marks)) (length inputs) (sym c.leads.ensures ∙ c.if-not-leads.false) in
+    let leading = eqb-true (inputs_of (take (length inputs) marks)) (length inputs) (sym c.requires.order ∙ c.if-not-leads.false) in
     let point = rw c.rows-rows.ensures.value at (IsPartitionPoint-from_clause (λ (cell : List ℕ). before (take (length inputs) cell) inputs) c.rows-rows.result.now place c.partition_point.ensures.partitioned (rw c.rows-rows.ensures.value (parted (length marks) cells inputs few t.rows.ascends)) (λ a r f k. search (rules, tests))) in
     let inside : place ≤ length cells = omega (arith, c.partition_point.ensures.bound, ap length c.rows-rows.ensures.value) in
     record {

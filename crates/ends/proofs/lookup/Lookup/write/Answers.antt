@@ -50,6 +50,6 @@ returns-then-leads c =
     let inside : i < length (table_cells t) = part_inside (table_cells t) c.start-start.result c.loop-cells.cells-index (rw c.rows.ensures.value at c.loop-cells-test.true) in
     let row = rw (c.rows.ensures.value, part_row (table_cells t) c.start-start.result c.loop-cells.cells-index) at c.values-row.ensures.value in
     let miss = ap (matches marks inputs) (sym row) ∙ (rw c.marks-marks.ensures.value at (sym c.holds_inputs.ensures.value ∙ c.if-holds_inputs.false)) in
-    let leading = sym c.leads-leads.ensures ∙ c.if-leads.true in
+    let leading = sym c.given_first-leads.ensures ∙ c.if-leads.true in
     let none = none_beyond marks inputs (table_cells t) t.rows.ascends c.args.self.now.as_many (eqb-true (inputs_of (take (length inputs) marks)) (length inputs) leading) c.start-start.result i [] (c.start-start.ensures.beyond leading) (omega arith) inside miss in
     record { count = rw none c.loop-cells.invariant.counted; written = rw none c.loop-cells.invariant.written }
