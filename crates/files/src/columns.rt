@@ -16,7 +16,7 @@ pub const GIVEN_MAX: usize = 3;
 // The columns of a table: one to four marks, of which at most three are given.
 #[derive(Drop)]
 pub struct Columns {
-    marks: Bounded<Mark, 4>,
+    marks: Bounded<Mark, COLUMNS_MAX>,
     ghost some: { 1 ≤ length (held marks) },
     ghost given: { inputs_of (held marks) ≤ 3 },
 }

@@ -19,7 +19,7 @@ pub const MATCHES_MAX: usize = 64;
 #[derive(Drop)]
 pub struct Rows {
     columns: Columns,
-    cells: Bounded<[u32; 4], 1024>,
+    cells: Bounded<[u32; 4], ROWS_MAX>,
     ghost whole: { all_whole (columns_marks columns) (held_rows columns cells) ≡ true },
     ghost ascends: { ascending (held_rows columns cells) ≡ true },
 }
