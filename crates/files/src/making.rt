@@ -6,6 +6,7 @@ use faults::{Fault, Refusal};
 use source::Mark;
 
 // The rows of values that stand one after another.
+#[tactic(auto, using(crate::proofs::Dividing::not_whole, crate::proofs::Dividing::too_many_rows, crate::proofs::Dividing::cutting_none, crate::proofs::Storing::unfit_values))]
 fn part(columns: Columns, values: &[u32]) -> Result<Rows, Fault>
     ensures { Parted columns values.now result }
 {
@@ -25,6 +26,7 @@ fn part(columns: Columns, values: &[u32]) -> Result<Rows, Fault>
 }
 
 // The columns and rows of a table of marks and values.
+#[tactic(auto, using(crate::proofs::Storing::unfit_marks, crate::proofs::Storing::unfit_inputs, crate::proofs::Storing::rows_storable, crate::proofs::Storing::few_rows, crate::proofs::Matching::few_match))]
 pub(crate) fn gather(marks: &[Mark], values: &[u32]) -> Result<Rows, Fault>
     ensures { Gathered marks.now values.now result }
 {

@@ -31,6 +31,7 @@ fn read_row(bytes: &[u8], at: usize, columns: usize) -> Result<([u32; 4], usize)
 }
 
 // Reads the header.
+#[tactic(auto, using(crate::proofs::Heads::told, crate::proofs::Heads::cut_0, crate::proofs::Heads::range_0, crate::proofs::Heads::cut_1))]
 fn read_head(bytes: &[u8]) -> Result<Head, Fault>
     ensures { HeadRead bytes.now result }
 {
@@ -54,6 +55,7 @@ fn read_head(bytes: &[u8]) -> Result<Head, Fault>
 }
 
 // Reads the rows, and answers where they end.
+#[tactic(auto, using(crate::proofs::Fronts::fell, crate::proofs::Fronts::stopped, bounded::proofs::Holding::length_most))]
 fn read_rows(bytes: &[u8], head: Head) -> Result<(Rows, usize), Fault>
     requires headed { Headed bytes.now head }
     ensures { RowsRead bytes.now head result }
@@ -72,6 +74,7 @@ fn read_rows(bytes: &[u8], head: Head) -> Result<(Rows, usize), Fault>
 }
 
 // Reads a whole file: the header, the rows, that nothing is left over and no row has too many with its inputs.
+#[tactic(auto, using(crate::proofs::Ends::over, crate::proofs::Ends::holds, crate::proofs::Ends::full))]
 pub(crate) fn load(bytes: &[u8]) -> Result<Rows, Fault>
     ensures { Loaded bytes.now result }
 {

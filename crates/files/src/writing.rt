@@ -42,6 +42,7 @@ fn header(rows: &Rows) -> [u32; 3]
 }
 
 // How many bytes a file takes.
+#[tactic(auto, using(crate::proofs::Sizes::file_long))]
 pub(crate) fn file_size(rows: &Rows) -> usize
     ensures { result ≡ length (file (rows_marks rows.now) (rows_values rows.now)) }
 {

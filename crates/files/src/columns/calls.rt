@@ -31,6 +31,7 @@ impl Columns {
     }
 
     // The columns of a number of marks: refused if it has another bit, or more than three.
+    #[tactic(auto, using(crate::proofs::Packing::taken_other))]
     pub(crate) fn unpack(width: usize, packed: u32) -> Option<Columns>
         requires some { 1 ≤ width }
         requires four { width ≤ 4 }
@@ -95,6 +96,7 @@ impl Columns {
     }
 
     // How many of the rows have this row's inputs.
+    #[tactic(auto, using(crate::proofs::Matching::count_matching))]
     pub(crate) fn count_alike(&self, rows: &[[u32; 4]], row: &[u32; 4]) -> usize
         ensures { result ≡ length (matching (columns_marks self.now) (picked (columns_marks self.now) row.now) (cut (length (columns_marks self.now)) rows.now)) }
     {

@@ -32,6 +32,7 @@ impl Rows {
     }
 
     // Whether the rows still ascend with this one behind them.
+    #[tactic(auto, using(crate::proofs::Ordering::follows_none, crate::proofs::Ordering::follows_last))]
     fn admits(&self, row: &[u32; 4]) -> bool
         ensures { result ≡ ascending (rows_values self.now ++ take (length (rows_marks self.now)) row.now ∷ []) }
     {
@@ -56,6 +57,7 @@ impl Rows {
     }
 
     // The first of the rows that has 64 earlier ones with its inputs.
+    #[tactic(auto, using(crate::proofs::Matching::earlier_counted))]
     pub(crate) fn first_crowded(&self) -> Option<usize>
         ensures { CrowdFound (rows_marks self.now) (rows_values self.now) result }
     {

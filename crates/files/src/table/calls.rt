@@ -24,6 +24,7 @@ impl Table {
     }
 
     // Opens a file. Refused if the bytes are not one.
+    #[tactic(auto, using(crate::proofs::Exact::one_content, crate::proofs::Exact::one_fault, crate::proofs::Exact::file_not_refused))]
     pub fn read(bytes: &[u8]) -> Result<Table, Fault>
         ensures opened { Opened bytes.now result }
         ensures exactly { Exactly bytes.now result }
@@ -79,6 +80,7 @@ impl Table {
 
 // Writes the file of these marks and values from the start of the memory, and returns its length.
 // Refused if no file can hold them, or the memory is shorter than the file.
+#[tactic(auto, using(crate::proofs::Storing::filed))]
 pub fn write_file(marks: &[Mark], values: &[u32], memory: &mut [u8]) -> Result<usize, Fault>
     ensures written { FileWritten marks.now values.now memory.old memory.new result }
 {

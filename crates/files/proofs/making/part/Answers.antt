@@ -1,34 +1,14 @@
-use Rattle.std.proofs.Common.{◌≡◌, ℕ, ◌++◌, [], ◌∷◌, List, length, take, map, sym, ap, ◌∙◌, subst, arith, rules, false}
+use Rattle.std.proofs.Common.{◌≡◌, ◌++◌, [], ◌∷◌, List, length, sym, ap, ◌∙◌, subst, arith, false}
 use Rattle.std.proofs.lemmas.List.{take_at}
 use Rattle.source.specs.declared.mark.Mark.{Mark}
 use Rattle.source.specs.Rows.{ascending}
-use Rattle.files.specs.Held.{columns_marks}
 use Rattle.files.specs.Listed.{rows_marks, rows_values}
 use Rattle.files.specs.Making.{Unfit, Divided}
 use Rattle.files.proofs.Pushing.{values_true, whole_row, whole_push}
 use Rattle.files.proofs.Heads.{columns_header}
-use Rattle.files.proofs.Dividing.{not_whole, too_many_rows, Cutting, cutting_none, cutting_more, cutting_all, values_cut}
-use Rattle.files.proofs.Storing.{unfit_values, unfit_order, few_rows}
+use Rattle.files.proofs.Dividing.{Cutting, cutting_more, cutting_all, values_cut}
+use Rattle.files.proofs.Storing.{unfit_order, few_rows}
 use Rattle.files.proofs.making.part.Goals as goal
-use Rattle.files.proofs.making.part.Goals.{then-values-width-ne0-via-then-values-width-ne0, then-values-width-ne0-via-else-values-width-ne0+then-values-width-gt-ROWS_MAX}
-
-pub returns-then-values-width-ne0 : goal.returns-then-values-width-ne0
-returns-then-values-width-ne0 c =
-    let width = c.width-width.ensures in
-    let some = c.args.columns.some in
-    unfit_values (elim c.then-values-width-ne0.branch [
-      | then-values-width-ne0-via-then-values-width-ne0 w ↦ not_whole (length c.args.values.now) (length (columns_marks c.args.columns)) some (rw width at w.if-values-width-ne0.true)
-      | then-values-width-ne0-via-else-values-width-ne0+then-values-width-gt-ROWS_MAX w ↦ too_many_rows (length c.args.values.now) (length (columns_marks c.args.columns)) some (rw width at w.if-values-width-gt-ROWS_MAX.true)
-    ]) c.bare.ensures.value
-
-pub loop-chunk-init : goal.loop-chunk-init
-loop-chunk-init c =
-    let rows = c.new-rows.result in
-    let width : c.width-width.result ≡ length (rows_marks rows) = c.width-width.ensures ∙ ap length (sym c.new-rows.ensures.marks) in
-    let none : rows_values rows ≡ [] = ap (map (take (length (rows_marks rows)))) c.new-rows.ensures.none in
-    let cutting = cutting_none (rows_marks rows) c.args.values.now (rw width at c.if-values-width-ne0.false) (rw width at c.if-values-width-gt-ROWS_MAX.false) in
-    let left = c.chunks_exact-chunk-items.ensures.rest in
-    (c.new-rows.ensures.marks, search rules, rw none (subst (λ (xs : List ℕ). Cutting (rows_marks rows) c.args.values.now [] xs) (search rules) cutting))
 
 pub returns-then-not-push : goal.returns-then-not-push
 returns-then-not-push c =

@@ -1,27 +1,8 @@
-use Rattle.std.proofs.Common.{inl, inr, arith}
+use Rattle.std.proofs.Common.{arith}
 use Rattle.std.proofs.lemmas.Result.{err_from_is_err_and}
 use Rattle.files.specs.Held.{columns_marks}
-use Rattle.files.proofs.Heads.{told, cut_0, range_0, cut_1, range_1, cut_2, range_2, front_0, columns_header, width_read, bits_read, number_few}
+use Rattle.files.proofs.Heads.{told, range_1, cut_2, range_2, front_0, columns_header, width_read, bits_read, number_few}
 use Rattle.files.proofs.opening.read_head.Goals as goal
-use Rattle.files.proofs.opening.read_head.Goals.{then-width-lt1-via-then-width-lt1, then-width-lt1-via-else-width-lt1+then-width-gt-COLUMNS_MAX}
-
-pub returns-in_err-width : goal.returns-in_err-width
-returns-in_err-width c =
-    let h = c.in_err-width.ensures.found in
-    let p = err_from_is_err_and c.from_residual.result c.from_residual.ensures.1 in
-    rw (p.1, p.2) (told h.1 (cut_0 h.0))
-
-pub returns-then-width-lt1 : goal.returns-then-width-lt1
-returns-then-width-lt1 c = told c.placed.ensures.value (range_0 c.in_ok-width.ensures.found (elim c.then-width-lt1.branch [
-  | then-width-lt1-via-then-width-lt1 w ↦ inl w.if-width-lt1.true
-  | then-width-lt1-via-else-width-lt1+then-width-gt-COLUMNS_MAX w ↦ inr w.if-width-gt-COLUMNS_MAX.true
-]))
-
-pub returns-in_err-packed : goal.returns-in_err-packed
-returns-in_err-packed c =
-    let h = c.in_err-packed.ensures.found in
-    let p = err_from_is_err_and c.from_residual-in_err-packed.result c.from_residual-in_err-packed.ensures.1 in
-    rw (p.1, p.2) (told h.1 (cut_1 c.in_ok-width.ensures.found c.if-width-lt1.false c.if-width-gt-COLUMNS_MAX.false h.0))
 
 pub returns-in_default : goal.returns-in_default
 returns-in_default c = told c.placed-in_default.ensures.value (range_1 c.in_ok-width.ensures.found c.if-width-lt1.false c.if-width-gt-COLUMNS_MAX.false c.in_ok-packed.ensures.found c.in_default.ensures)

@@ -1,25 +1,11 @@
 use Rattle.std.proofs.Common.{◌≡◌, ℕ, ◌+◌, List, length, sym, ap, ◌∙◌, subst, arith}
 use Rattle.std.proofs.lemmas.List.{length_push}
-use Rattle.std.proofs.lemmas.Result.{err_from_is_err_and}
 use Rattle.bounded.proofs.Holding.{length_most}
 use Rattle.source.specs.declared.mark.Mark.{Mark}
 use Rattle.files.specs.Listed.{rows_marks, rows_values}
 use Rattle.files.specs.Refusing.{Front}
-use Rattle.files.proofs.Fronts.{turn, fell, stopped}
+use Rattle.files.proofs.Fronts.{turn}
 use Rattle.files.proofs.opening.read_rows.Goals as goal
-
-pub returns-in_err-row : goal.returns-in_err-row
-returns-in_err-row c =
-    let rows = c.loop.rows in
-    let width : c.width-width.result ≡ length (rows_marks rows) = c.width-width.ensures ∙ ap length (sym c.loop.invariant.0) in
-    let p = err_from_is_err_and c.from_residual.result c.from_residual.ensures.1 in
-    rw (p.1, p.2) (stopped (rows_values rows) (length_most rows.columns.marks) (omega arith) c.loop.invariant.2 (rw width at c.in_err-row.ensures))
-
-pub returns-then-not-push : goal.returns-then-not-push
-returns-then-not-push c =
-    let rows = c.loop.rows in
-    let width : c.width-width.result ≡ length (rows_marks rows) = c.width-width.ensures ∙ ap length (sym c.loop.invariant.0) in
-    fell (rows_values rows) (length_most rows.columns.marks) (omega arith) c.loop.invariant.2 c.push.result (rw width at c.in_ok-row.ensures) c.push.ensures.follows c.if-not-push.true c.placed.ensures.value
 
 pub loop-preserved : goal.loop-preserved
 loop-preserved c =
