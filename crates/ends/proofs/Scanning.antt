@@ -1,7 +1,7 @@
 -- Scanning rows for those that hold some inputs.
 use Rattle.std.proofs.Common.{◌≡◌, ℕ, zero, suc, ◌+◌, ◌-◌, ◌*◌, ◌<◌, ◌≤◌, true, false, List, [], ◌∷◌, ◌++◌, map, length, get_or, take, drop, sym, refl, ap, ◌∙◌, subst, inl, inr, append_assoc, append-nil, arith, zero-mul, length-append, length-drop, take-append-drop}
 use Rattle.std.proofs.lemmas.List.{take_more, take-map, map_push, get_or-map, get_or-drop, get_or-take, length-take, take_at, take_rest, drop_at, drop-drop}
-use Rattle.std.proofs.lemmas.Bool.{cases_lt, both_ways}
+use Rattle.std.proofs.lemmas.Bool.{cases_lt, both_ways, false_from_ne_true}
 use Rattle.std.proofs.Math.Nat.{mul-le-mul}
 use Rattle.source.specs.declared.mark.Mark.{Mark}
 use Rattle.source.specs.declared.mark.Mark.TheVariants.{Given, Free}
@@ -13,7 +13,7 @@ use Rattle.files.specs.Held.{cut}
 use Rattle.files.proofs.Holding.{flat_push}
 use Rattle.source.specs.Rows.{Written}
 use Rattle.ends.specs.Lookup.{found, Below, Beyond}
-use Rattle.ends.proofs.Searching.{earlier_before, front_cases, length_cut, false_from}
+use Rattle.ends.proofs.Searching.{earlier_before, front_cases, length_cut}
 
 -- Given columns that stand first.
 
@@ -94,7 +94,7 @@ module _ (marks : List Mark) (inputs : List ℕ) (cells : List (List ℕ)) where
         none j h =
             let lt : j < place = omega (arith, length-take place rows) in
             rw (get_or-take place rows j [] lt)
-            (false_from (matches marks inputs (get_or rows j [])) (λ t. before_irrefl inputs (subst (λ z. before z inputs ≡ true) (holds_front (get_or rows j []) t) (b j lt))))
+            (false_from_ne_true (matches marks inputs (get_or rows j [])) (λ t. before_irrefl inputs (subst (λ z. before z inputs ≡ true) (holds_front (get_or rows j []) t) (b j lt))))
 
     -- behind a row that does not hold them, none does
     pub none_beyond : (place i : ℕ) (d : List ℕ) → Beyond rows inputs place → place ≤ i → i < length cells → matches marks inputs (row_at i d) ≡ false → found marks inputs cells ≡ found marks inputs (take i cells)
@@ -114,7 +114,7 @@ module _ (marks : List Mark) (inputs : List ℕ) (cells : List (List ℕ)) where
 
         from : (q : ℕ) → i ≤ q → q < length rows → matches marks inputs (get_or rows q []) ≡ false
         from q k n = elim (cases_lt i q) [
-          | inl a ↦ false_from (matches marks inputs (get_or rows q [])) (later q a n)
+          | inl a ↦ false_from_ne_true (matches marks inputs (get_or rows q [])) (later q a n)
           | inr a ↦ (let e : i ≡ q = omega arith in subst (λ z. matches marks inputs (get_or rows z []) ≡ false) e here)
         ]
 

@@ -1,5 +1,5 @@
 -- Halving: rows that ascend, around a list of inputs.
-use Rattle.std.proofs.Common.{◌≡◌, ℕ, zero, suc, ◌<◌, ◌≤◌, Bool, true, false, ◌⊎◌, List, [], ◌∷◌, length, get_or, take, sym, refl, ap, ◌∙◌, subst, inl, inr, arith}
+use Rattle.std.proofs.Common.{◌≡◌, ℕ, zero, suc, ◌<◌, ◌≤◌, true, false, ◌⊎◌, List, [], ◌∷◌, length, get_or, take, sym, refl, ap, ◌∙◌, subst, inl, inr, arith}
 use lib.ListN.{length-map}
 use Rattle.std.proofs.lemmas.List.{take-take, get_or-map}
 use Rattle.std.proofs.lemmas.Bool.{cases_lt, false≢true}
@@ -37,10 +37,6 @@ front_cases (suc k) (x ∷ xs) (y ∷ ys) h = go (before_cases x y xs ys h) (fro
     go : (x < y) ⊎ ((x ≡ y) × (before xs ys ≡ true)) → (before xs ys ≡ true → (before (take k xs) (take k ys) ≡ true) ⊎ (take k xs ≡ take k ys)) → (before (x ∷ take k xs) (y ∷ take k ys) ≡ true) ⊎ (x ∷ take k xs ≡ y ∷ take k ys)
     go (inl l) f = inl (before_at_head x y (take k xs) (take k ys) l)
     go (inr p) f = tail p.0 (f p.1)
-
-pub false_from : (b : Bool) → (b ≡ true → ⊥) → b ≡ false
-false_from true n = absurd (n refl)
-false_from false n = refl
 
 module _ (rows : List (List ℕ)) (inputs : List ℕ) (ascends : ascending rows ≡ true) where
   abbrev front : ℕ → List ℕ

@@ -2,7 +2,7 @@
 use Rattle.std.proofs.Common.{◌≡◌, ℕ, zero, suc, ◌+◌, ◌*◌, ◌/◌, ◌%◌, ◌<◌, ◌≤◌, true, false, eqb, List, [], ◌∷◌, ◌++◌, length, take, drop, sym, refl, ap, ◌∙◌, append_assoc, append-nil, suc-mul, div-add-mod', zero-mul, mul-div_cancel, arith, length-append, length-drop, take-append-drop, eqb-true}
 use native.Mathlib.Nat.{mul-mod_left}
 use Rattle.std.proofs.lemmas.List.{length-take-le, take_at, drop_at, nil_from_length}
-use Rattle.std.proofs.lemmas.Bool.{and_parts, and_from, both_ways}
+use Rattle.std.proofs.lemmas.Bool.{and_parts, and_from, both_ways, false_from_ne_true}
 use Rattle.source.specs.declared.mark.Mark.{Mark}
 use Rattle.source.specs.Rows.{all_values, ascending, flat}
 use Rattle.source.specs.Marks.{whole, all_whole}
@@ -10,7 +10,7 @@ use Rattle.files.specs.Contents.{Header}
 use Rattle.files.specs.Making.{Divided}
 use Rattle.files.proofs.Pushing.{values_split, whole_row}
 use Rattle.files.proofs.Holding.{flat_push, flat-++}
-use Rattle.files.proofs.Ordering.{false_of, ascending_front}
+use Rattle.files.proofs.Ordering.{ascending_front}
 
 -- how many rows
 pub not_whole : (values columns : ℕ) → 1 ≤ columns → (values % columns ≡ 0 → ⊥) → (count : ℕ) → count * columns ≡ values → count ≤ 1024 → ⊥
@@ -136,4 +136,4 @@ module _ {ms : List Mark} {values : List ℕ} {rows : List (List ℕ)} {left : L
       whole_both (x ∷ xs) ys p q = let r = and_parts (whole ms x) (all_whole ms xs) p in and_from (whole ms x) (all_whole ms (xs ++ ys)) r.0 (whole_both xs ys r.1 q)
 
   pub cut_falls : ascending rows ≡ false → ascending (rows ++ chop (length ms) cutting.more left) ≡ false
-  cut_falls f = false_of (ascending (rows ++ chop (length ms) cutting.more left)) (λ a. both_ways (ascending rows) f (ascending_front rows (chop (length ms) cutting.more left) a))
+  cut_falls f = false_from_ne_true (ascending (rows ++ chop (length ms) cutting.more left)) (λ a. both_ways (ascending rows) f (ascending_front rows (chop (length ms) cutting.more left) a))

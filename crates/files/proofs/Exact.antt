@@ -1,7 +1,7 @@
 -- No bytes are both a file and refused, and none are refused in two ways: reading as a function.
 use Rattle.std.proofs.Common.{◌≡◌, ℕ, zero, suc, ◌+◌, ◌-◌, ◌*◌, ◌/◌, ◌%◌, ◌^◌, ◌<◌, ◌≤◌, Bool, true, false, ◌&&◌, eqb, ltb, leb, List, [], ◌∷◌, ◌++◌, length, get_or, take, drop, Some, None, Ok, Err, Option, Result, sym, refl, ap, ◌∙◌, subst, inl, inr, append_assoc, append-nil, add-zero, add_assoc, zero-add, arith, length-append, length-drop, ltb-true, eq-eqb, eqb-true, le-leb, leb-true}
 use Rattle.std.proofs.lemmas.List.{drop_at, drop_all, get_or-drop}
-use Rattle.std.proofs.lemmas.Bool.{cases_order, and_parts, and_from}
+use Rattle.std.proofs.lemmas.Bool.{cases_order, and_parts, and_from, false_from_ne_true}
 use Rattle.faults.specs.declared.fault.Fault.{Fault}
 use Rattle.faults.specs.declared.refusal.Refusal.{Refusal}
 use Rattle.faults.specs.declared.refusal.Refusal.TheVariants.{NumberForm, HeaderRange, RowsNotAscending, TooManyMatches, BytesLeftOver}
@@ -19,7 +19,7 @@ use Rattle.files.specs.Refusing.Refuses.{header_cut, header_range, row_cut, row_
 use Rattle.files.specs.Theorems.{OneContent, NotBoth, OneFault}
 use Rattle.files.proofs.Packing.{bit_few, bits_few}
 use Rattle.files.proofs.Holding.{flat_push}
-use Rattle.files.proofs.Ordering.{false_of, ascending_front}
+use Rattle.files.proofs.Ordering.{ascending_front}
 use Rattle.files.proofs.Matching.{crowd_matches}
 use Rattle.files.proofs.Pushing.{values_split}
 use Rattle.files.proofs.Reading.{values_one, values-++}
@@ -276,7 +276,7 @@ run_head bytes ns rest n e s h b =
 
 not_head : (ns : List ℕ) (n : ℕ) → (Begun (ns ++ n ∷ []) → ⊥) → ok_head (singles ns) (n ∷ []) ≡ false
 unfolding ok_head
-not_head ns n z = rw (flat_singles ns) (false_of (heading (ns ++ n ∷ [])) (λ t. z (head_back (ns ++ n ∷ []) t)))
+not_head ns n z = rw (flat_singles ns) (false_from_ne_true (heading (ns ++ n ∷ [])) (λ t. z (head_back (ns ++ n ∷ []) t)))
 
 run_front : {bytes : List ℕ} {ms : List Mark} {n p : ℕ} {rows : List (List ℕ)} (k : ℕ) → n ≡ length rows + k → Front bytes ms n rows p → outcome bytes ≡ items (length ms) ok_row RowsNotAscending k rows (drop p bytes) p (finish ms)
 unfolding items bodies body singles table

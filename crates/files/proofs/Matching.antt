@@ -1,15 +1,17 @@
 -- Rows with the same inputs.
-use Rattle.std.proofs.Common.{◌≡◌, ℕ, zero, suc, ◌+◌, ◌<◌, ◌≤◌, Bool, true, false, ◌&&◌, ◌||◌, cond, eqb, List, [], ◌∷◌, ◌++◌, length, get_or, take, drop, sym, refl, ap, ◌∙◌, subst, inl, inr, arith, take-append-drop, eq-eqb, eqb-true}
+use Rattle.std.proofs.Common.{◌≡◌, ℕ, zero, suc, ◌+◌, ◌<◌, ◌≤◌, Bool, true, false, ◌&&◌, ◌||◌, cond, eqb, List, [], ◌∷◌, ◌++◌, length, get_or, take, drop, sym, refl, ap, ◌∙◌, subst, inl, inr, arith, length-append, take-append-drop}
 use Rattle.std.proofs.lemmas.List.{take_more, take_all, take-map, get_or-map}
 use Rattle.std.proofs.lemmas.List.Sums.{sum_by-cons}
 use Rattle.std.specs.List.{zip, list_all, count_by}
-use Rattle.std.proofs.lemmas.Bool.{cond-true, cond-false, and_parts, cases_Bool}
+use Rattle.std.proofs.lemmas.Bool.{cond-true, cond-false, cases_Bool}
 use Rattle.source.specs.declared.mark.Mark.{Mark}
 use Rattle.source.specs.declared.mark.Mark.TheVariants.{Given, Free}
 use Rattle.source.specs.Rows.{same}
 use Rattle.source.specs.Marks.{same_mark, picked, matches, matching}
 use Rattle.files.specs.Held.{cut}
 use Rattle.files.specs.Refusing.{earlier}
+use Rattle.source.proofs.Rows.{same_eq, same_refl}
+use Rattle.source.proofs.Matching.{matching_append}
 
 -- two rows agree in a column, if it is given
 abbrev pub agrees : Mark × (ℕ × ℕ) → Bool
@@ -37,9 +39,7 @@ long_cond true r rs = omega arith
 long_cond false r rs = omega arith
 
 matching-++ : (ms : List Mark) (inputs : List ℕ) (xs ys : List (List ℕ)) → length (matching ms inputs (xs ++ ys)) ≡ length (matching ms inputs xs) + length (matching ms inputs ys)
-matching-++ ms inputs [] ys = omega arith
-matching-++ ms inputs (x ∷ xs) ys =
-    omega (arith, matching-++ ms inputs xs ys, long_cond (matches ms inputs x) x (matching ms inputs (xs ++ ys)), long_cond (matches ms inputs x) x (matching ms inputs xs))
+matching-++ ms inputs xs ys = ap length (matching_append ms inputs xs ys) ∙ length-append (matching ms inputs xs) (matching ms inputs ys)
 
 pub matching_push : (ms : List Mark) (inputs : List ℕ) (rows : List (List ℕ)) (r : List ℕ) → length (matching ms inputs (rows ++ r ∷ [])) ≡ length (matching ms inputs rows) + cond (matches ms inputs r) 1 0
 matching_push ms inputs rows r = omega (arith, matching-++ ms inputs rows (r ∷ []), long_cond (matches ms inputs r) r [])
@@ -65,27 +65,13 @@ pub earlier_counted : (ms : List Mark) (i n : ℕ) (cells items front : List (Li
 earlier_counted ms i n cells items front e f h c = c ∙ rw (e, f) (sym (earlier_at ms i cells [] (subst (λ (x : List (List ℕ)). i < length x) e h)))
 
 -- if no row has 64 earlier ones with its inputs, at most 64 rows match any inputs
-same_true : (xs ys : List ℕ) → same xs ys ≡ true → xs ≡ ys
-same_true [] [] e = refl
-same_true [] (y ∷ ys) e = let z : ◌≡◌ {A = ℕ} 0 1 = cc in absurd (omega arith)
-same_true (x ∷ xs) [] e = let z : ◌≡◌ {A = ℕ} 0 1 = cc in absurd (omega arith)
-same_true (x ∷ xs) (y ∷ ys) e =
-    let p = and_parts (eqb x y) (same xs ys) e in
-    let a : x ≡ y = eqb-true x y p.0 in
-    let b : xs ≡ ys = same_true xs ys p.1 in
-    cc
-
-pub same_self : (xs : List ℕ) → same xs xs ≡ true
-same_self [] = refl
-same_self (x ∷ xs) = rw (eq-eqb x x refl) (same_self xs)
-
 module _ (ms : List Mark) (rows : List (List ℕ)) (uncrowded : (j : ℕ) → j < length rows → length (earlier ms rows j) < 64) (inputs : List ℕ) where
   few_push : (j : ℕ) → j < length rows → length (matching ms inputs (take j rows)) ≤ 64 → length (matching ms inputs (take (j + 1) rows)) ≤ 64
   few_push j h few =
       let r : List ℕ = get_or rows j [] in
       let e : length (matching ms inputs (take (j + 1) rows)) ≡ length (matching ms inputs (take j rows)) + cond (matches ms inputs r) 1 0 = ap (λ (x : List (List ℕ)). length (matching ms inputs x)) (take_more rows j [] h) ∙ matching_push ms inputs (take j rows) r in
       elim (cases_Bool (matches ms inputs r)) [
-        | inl t ↦ (let p : picked ms r ≡ inputs = same_true (picked ms r) inputs t in
+        | inl t ↦ (let p : picked ms r ≡ inputs = same_eq (picked ms r) inputs t in
             let u : length (matching ms inputs (take j rows)) < 64 = subst (λ (x : List ℕ). length (matching ms x (take j rows)) < 64) p (uncrowded j h) in
             let c : ◌≡◌ {A = ℕ} (cond (matches ms inputs r) 1 0) 1 = cond-true (matches ms inputs r) 1 0 t in
             omega arith)
@@ -107,7 +93,7 @@ pub crowd_matches : (ms : List Mark) (rows : List (List ℕ)) (i : ℕ) → i < 
 crowd_matches ms rows i h m =
     let inputs : List ℕ = picked ms (get_or rows i []) in
     let e : length (matching ms inputs (take (i + 1) rows)) ≡ length (matching ms inputs (take i rows)) + cond (matches ms inputs (get_or rows i [])) 1 0 = ap (λ (x : List (List ℕ)). length (matching ms inputs x)) (take_more rows i [] h) ∙ matching_push ms inputs (take i rows) (get_or rows i []) in
-    let c : ◌≡◌ {A = ℕ} (cond (matches ms inputs (get_or rows i [])) 1 0) 1 = cond-true (matches ms inputs (get_or rows i [])) 1 0 (same_self inputs) in
+    let c : ◌≡◌ {A = ℕ} (cond (matches ms inputs (get_or rows i [])) 1 0) 1 = cond-true (matches ms inputs (get_or rows i [])) 1 0 (same_refl inputs) in
     omega (arith, matching_front ms inputs rows (i + 1))
 
 pub matching_few : (ms : List Mark) (inputs : List ℕ) (rows : List (List ℕ)) → length (matching ms inputs rows) ≤ length rows

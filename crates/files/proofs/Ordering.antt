@@ -1,5 +1,5 @@
 -- Rows in order.
-use Rattle.std.proofs.Common.{◌≡◌, ℕ, ◌+◌, ◌-◌, ◌<◌, Bool, true, false, ◌&&◌, List, [], ◌∷◌, ◌++◌, length, take, sym, refl, ap, ◌∙◌, append_assoc, arith, Some, None}
+use Rattle.std.proofs.Common.{◌≡◌, ℕ, ◌+◌, ◌-◌, ◌<◌, true, ◌&&◌, List, [], ◌∷◌, ◌++◌, length, take, sym, refl, ap, ◌∙◌, append_assoc, arith, Some, None}
 use mathlib.Core.Bool.{and-true, and_assoc}
 use Rattle.std.proofs.lemmas.Bool.{and_parts, and_from}
 use Rattle.std.specs.List.{slice_get}
@@ -34,10 +34,6 @@ follows_none c (x ∷ cells) row e = absurd (none_some (e ∙ slice_get-get_or (
   where
     none_some : {y : List ℕ} → None ≡ Some y → ⊥
     none_some p = cc
-
-pub false_of : (b : Bool) → (b ≡ true → ⊥) → b ≡ false
-false_of true n = absurd (n refl)
-false_of false n = refl
 
 -- the first of ascending rows ascend
 pub ascending_front : (xs ys : List (List ℕ)) → ascending (xs ++ ys) ≡ true → ascending xs ≡ true
