@@ -30,9 +30,7 @@ fn part(columns: Columns, values: &[u32]) -> Result<Rows, Fault>
 pub(crate) fn gather(marks: &[Mark], values: &[u32]) -> Result<Rows, Fault>
     ensures { Gathered marks.now values.now result }
 {
-    let Some(columns) = Columns::of_marks(marks) else {
-        return Err(Fault::bare(Refusal::HeaderRange));
-    };
+    let columns = Columns::of_marks(marks).ok_or(Fault::bare(Refusal::HeaderRange))?;
     let rows = part(columns, values)?;
     match rows.first_crowded() {
         Some(_) => Err(Fault::bare(Refusal::TooManyMatches)),

@@ -14,7 +14,8 @@ pub struct Head {
     pub at: usize,
 }
 
-// Reads a row, and answers where it ends.
+// Reads a row, and answers where it ends. A cursor of the bytes and the place would be no plainer: only
+// this function takes both.
 fn read_row(bytes: &[u8], at: usize, columns: usize) -> Result<([u32; 4], usize), Fault>
     requires at { at ≤ length bytes.now }
     requires columns { columns ≤ 4 }
@@ -40,9 +41,10 @@ fn read_head(bytes: &[u8]) -> Result<Head, Fault>
         return Err(Fault::placed(Refusal::HeaderRange, 0));
     }
     let (packed, b) = numbers::read(bytes, a)?;
-    let Some(columns) = Columns::unpack(width as usize, packed) else {
-        return Err(Fault::placed(Refusal::HeaderRange, a));
-    };
+    let columns = Columns::unpack(width as usize, packed).ok_or(Fault::placed(
+        Refusal::HeaderRange,
+        a,
+    ))?;
     let (count, d) = numbers::read(bytes, a + b)?;
     if count as usize > ROWS_MAX {
         return Err(Fault::placed(Refusal::HeaderRange, a + b));

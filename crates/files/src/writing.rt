@@ -49,7 +49,8 @@ pub(crate) fn file_size(rows: &Rows) -> usize
     values_size(&header(rows)) + rows_size(rows.columns(), rows.cells())
 }
 
-// Writes values one after another where there is room for them, and answers the place behind them.
+// Writes values one after another where there is room for them, and answers the place behind them. A
+// cursor of the memory and the place would be no plainer: only this function takes both.
 fn put_values(memory: &mut [u8], at: usize, values: &[u32]) -> usize
     requires { at + length (encodes values.now) ≤ length memory.old }
     ensures place { result ≡ at + length (encodes values.now) }
