@@ -92,6 +92,7 @@ impl Catalogue {
 }
 
 // Every text is the text of one catalogue, or has one refusal, and never both.
+#[tactic(auto, using(crate::proofs::Answering::one_answer))]
 pub fn each_text_has_one_answer()
     ensures theorem { OneAnswer }
 {}
