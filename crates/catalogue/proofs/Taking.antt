@@ -111,10 +111,10 @@ module _ (r : Reader) (t : Token) (ls : List Line) (s : Seen r (kinds_in ls) ls)
       (
         e,
         refl,
-        (
-          record { kinds = rw (append-nil (kinds_in ls)) s.kinds; sources = s.sources; lines = s.lines; shaped = s.shaped },
-          record { room = let z = entries_count r (kinds_in ls) ls s in omega arith; name = n; kinds = ks; marks = ms; few = omega arith },
-        ),
+        record {
+          seen = record { kinds = rw (append-nil (kinds_in ls)) s.kinds; sources = s.sources; lines = s.lines; shaped = s.shaped };
+          begun = record { room = let z = entries_count r (kinds_in ls) ls s in omega arith; name = n; kinds = ks; marks = ms; few = omega arith };
+        },
       ),
     )
       where
@@ -129,10 +129,10 @@ module _ (r : Reader) (e : Entry) (t : Token) (ls : List Line) (n : Token) (cs :
 
   module _ (a : is 32 t ≡ false) (d : is 10 t ≡ true) (nonzero : length (held e.columns.marks) ≡ 0 → ⊥) (more : Bounded Entry 8) (b : Bool) (u : b ≡ ltb r.entries.used 8) (v : held more ≡ cond b (held r.entries ++ e ∷ []) (held r.entries)) where
     abbrev s : Seen r (kinds_in ls ++ kinds_of cs) ls
-    s = behind.0
+    s = behind.seen
 
     abbrev g : Begun r e ls n cs
-    g = behind.1
+    g = behind.begun
 
     abbrev ks : List Token
     ks = names r.kinds
@@ -172,7 +172,7 @@ module _ (r : Reader) (e : Entry) (t : Token) (ls : List Line) (n : Token) (cs :
 -- the spaced stage
 module _ (r : Reader) (e : Entry) (t : Token) (ls : List Line) (n : Token) (cs : List Column) (behind : Behind r e ls n cs) (name : is_name t ≡ true) where
   columns_count : length (held e.columns.marks) ≡ length cs
-  columns_count = ap length behind.1.marks ∙ marks_length cs
+  columns_count = ap length behind.begun.marks ∙ marks_length cs
 
   pub fifth : 4 ≤ length (held e.columns.marks) → wrong (spaced ls n cs) t ≡ Some CatalogueLimit
   fifth h = told_limit (is_name t) (leb 4 (length cs) || crowded t (known ls cs)) false name (rw (le-leb 4 (length cs) (let z = columns_count in omega arith)) refl)
@@ -180,8 +180,8 @@ module _ (r : Reader) (e : Entry) (t : Token) (ls : List Line) (n : Token) (cs :
   pub has_kind : (more : Bounded (Bounded ℕ 16) 16) (i : ℕ) → length (held e.columns.marks) < 4 → Numbered (names r.kinds) (names more) t 16 (Some i) →
       Taken steps (At (record { stage = r.stage; kinds = more; entries = r.entries })) (spaced ls n cs) t (Ok (at.Kinded e i))
   has_kind more i few q =
-      let s = behind.0 in
-      let g = behind.1 in
+      let s = behind.seen in
+      let g = behind.begun in
       let ks = names r.kinds in
       let seen : AllAmong (kinds_in ls ++ kinds_of cs) ks = subst (AllAmong (kinds_in ls ++ kinds_of cs)) (sym s.kinds) (seen_all [] (kinds_in ls ++ kinds_of cs)) in
       let room : length cs < 4 = let z = columns_count in omega arith in (
@@ -190,22 +190,22 @@ module _ (r : Reader) (e : Entry) (t : Token) (ls : List Line) (n : Token) (cs :
           e,
           i,
           refl,
-          (
-            record {
+          record {
+            seen = record {
               kinds = q.0 ∙ ap (λ (x : List Token). with_name x t) s.kinds ∙ sym (seen_push [] (kinds_in ls ++ kinds_of cs) t) ∙ ap (first_seen []) (append_assoc (kinds_in ls) (kinds_of cs) (t ∷ []));
               sources = s.sources;
               shaped = subst (λ (x : List Token). all_shaped (length x) (map entry_columns (held r.entries)) ≡ true) (sym q.0) (all_shaped_kept (length ks) (length (with_name ks t)) (map entry_columns (held r.entries)) (length_added ks t) s.shaped);
               lines = s.lines ∙ sym (ap (λ (x : List Token). map (numbered x) ls) q.0 ∙ lines_kept ks t ls (all_among_0 (kinds_in ls) (kinds_of cs) ks seen));
-            },
-            record {
+            };
+            begun = record {
               room = g.room;
               name = g.name;
               marks = g.marks;
               few = g.few;
               kinds = g.kinds ∙ sym (ap (λ (x : List Token). numbers x (kinds_of cs)) q.0 ∙ numbers_kept ks (kinds_of cs) t (all_among_1 (kinds_in ls) (kinds_of cs) ks seen));
-            },
-            record { room = room; number = q.1 ∙ sym (ap (number_of t) q.0 ∙ number_added t ks) },
-          ),
+            };
+            kind = record { room = room; number = q.1 ∙ sym (ap (number_of t) q.0 ∙ number_added t ks) };
+          },
         ),
       )
 
@@ -227,9 +227,9 @@ module _ (r : Reader) (e : Entry) (i : ℕ) (t : Token) (ls : List Line) (n : To
       (length (held e.columns.kinds) < 4 → held more.kinds ≡ held e.columns.kinds ++ i ∷ []) → (length (held e.columns.marks) < 4 → held more.marks ≡ held e.columns.marks ++ mark ∷ []) →
       Taken steps (At r) (coloned ls n cs k) t (Ok (at.Columns (record { name = e.name; columns = more })))
   has_mark few more ka ma =
-      let s = behind.0 in
-      let g = behind.1 in
-      let j = behind.2 in
+      let s = behind.seen in
+      let g = behind.begun in
+      let j = behind.kind in
       let ks = names r.kinds in
       let c : Column = record { kind = k; mark = mark_or_free t } in
       let is_mark = mark_fits t mark read in
@@ -240,16 +240,16 @@ module _ (r : Reader) (e : Entry) (i : ℕ) (t : Token) (ls : List Line) (n : To
         (
           record { name = e.name; columns = more },
           refl,
-          (
-            record { kinds = s.kinds ∙ ap (λ (x : List Token). first_seen [] (kinds_in ls ++ x)) (sym (kinds_push cs c)); sources = s.sources; lines = s.lines; shaped = s.shaped },
-            record {
+          record {
+            seen = record { kinds = s.kinds ∙ ap (λ (x : List Token). first_seen [] (kinds_in ls ++ x)) (sym (kinds_push cs c)); sources = s.sources; lines = s.lines; shaped = s.shaped };
+            begun = record {
               room = g.room;
               name = g.name;
               marks = marks_are;
               kinds = kinds_so ∙ ap (λ (x : List ℕ). x ++ i ∷ []) g.kinds ∙ ap (λ (x : ℕ). numbers ks (kinds_of cs) ++ x ∷ []) j.number ∙ sym (numbers_push ks (kinds_of cs) k) ∙ ap (numbers ks) (sym (kinds_push cs c));
               few = subst (λ (x : List Mark). inputs_of x ≤ 3) (ap (λ (x : Mark). marks_in cs ++ x ∷ []) is_mark.1 ∙ sym (marks_push cs c)) (few_more mark (λ w. let z = few w in let y = ap inputs_of g.marks in omega arith) g.few);
-            },
-          ),
+            };
+          },
         ),
       )
     where
@@ -259,7 +259,7 @@ module _ (r : Reader) (e : Entry) (i : ℕ) (t : Token) (ls : List Line) (n : To
 
       not_past : (x : Bool) → is 98 t ≡ x → (is 98 t && leb 3 (inputs_of (marks_in cs))) ≡ false
       not_past false i = rw i refl
-      not_past true i = rw i (lt-leb 3 (inputs_of (marks_in cs)) (let y = few ((mark_fits t mark read).1 ∙ rw i refl) in let z = ap inputs_of behind.1.marks in omega arith))
+      not_past true i = rw i (lt-leb 3 (inputs_of (marks_in cs)) (let y = few ((mark_fits t mark read).1 ∙ rw i refl) in let z = ap inputs_of behind.begun.marks in omega arith))
 
 -- what the stage of a reader says of the part behind which it stands
 abbrev pub Standing : Reader → Stage → (Part → Type 0) → Type 0
@@ -291,10 +291,10 @@ module _ (r : Reader) (x : Stage) where
   begun_moved e ls n cs g = record { room = g.room; name = g.name; kinds = g.kinds; marks = g.marks; few = g.few }
 
   behind_moved : (e : Entry) (ls : List Line) (n : Token) (cs : List Column) → Behind r e ls n cs → Behind moved e ls n cs
-  behind_moved e ls n cs b = (seen_moved _ ls b.0, begun_moved e ls n cs b.1)
+  behind_moved e ls n cs b = record { seen = seen_moved _ ls b.seen; begun = begun_moved e ls n cs b.begun }
 
   kind_moved : (e : Entry) (i : ℕ) (ls : List Line) (n : Token) (cs : List Column) (k : Token) → BehindKind r e i ls n cs k → BehindKind moved e i ls n cs k
-  kind_moved e i ls n cs k b = (seen_moved _ ls b.0, begun_moved e ls n cs b.1, record { room = b.2.room; number = b.2.number })
+  kind_moved e i ls n cs k b = record { seen = seen_moved _ ls b.seen; begun = begun_moved e ls n cs b.begun; kind = record { room = b.kind.room; number = b.kind.number } }
 
   pub at_moved : (s : Stage) (p : Part) → At r s p → At moved s p
   at_moved s (lines ls) a = (a.0, seen_moved _ ls a.1)

@@ -84,12 +84,15 @@ pub record Kind (r : Reader) (i : ℕ) (cs : List Column) (k : Token) : Type 0 w
   pub number : i ≡ number_of k (names r.kinds)
 
 -- whole lines are read, and an entry is begun
-abbrev pub Behind : Reader → Entry → List Line → Token → List Column → Type 0
-Behind r e ls n cs = Seen r (kinds_in ls ++ kinds_of cs) ls × Begun r e ls n cs
+pub record Behind (r : Reader) (e : Entry) (ls : List Line) (n : Token) (cs : List Column) : Type 0 where
+  pub seen : Seen r (kinds_in ls ++ kinds_of cs) ls
+  pub begun : Begun r e ls n cs
 
 -- the same, and a column is begun
-abbrev pub BehindKind : Reader → Entry → ℕ → List Line → Token → List Column → Token → Type 0
-BehindKind r e i ls n cs k = Seen r (kinds_in ls ++ (kinds_of cs ++ k ∷ [])) ls × Begun r e ls n cs × Kind r i cs k
+pub record BehindKind (r : Reader) (e : Entry) (i : ℕ) (ls : List Line) (n : Token) (cs : List Column) (k : Token) : Type 0 where
+  pub seen : Seen r (kinds_in ls ++ (kinds_of cs ++ k ∷ [])) ls
+  pub begun : Begun r e ls n cs
+  pub kind : Kind r i cs k
 
 -- the reader would stand behind the part if it were at this stage
 abbrev pub At : Reader → Stage → Part → Type 0
