@@ -3,6 +3,7 @@ ghost use Rattle.ordering.specs.Orders.{First, Unordered};
 ghost use Rattle.ordering.specs.Worked.{notices_of_pack, modules_of_any_pack};
 
 // What the definitions say of two queries over pack `b f`, batch `b f f` and recall `b f`.
+#[tactic(auto, using(crate::proofs::Examples::first_of_notices, crate::proofs::Examples::modules_unordered))]
 fn settled()
     ensures notices { First notices_of_pack (2 ∷ 1 ∷ 0 ∷ []) }
     ensures modules { Unordered modules_of_any_pack 0 }

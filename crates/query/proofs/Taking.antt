@@ -60,10 +60,10 @@ variable_fits t e = or_left (is_variable t) (is_constant t) e
 pub constant_fits : (t : Token) → is_constant t ≡ true → (is_variable t || is_constant t) ≡ true
 constant_fits t e = or_right (is_variable t) (is_constant t) e
 
--- what is told of a value that is not there
-pub told_none_there : {X : Type 0} (found : Option X) (refusal r : Refusal) → Err r ≡ ok_or found refusal → r ≡ refusal
-told_none_there None refusal r e = cc
-told_none_there (Some x) refusal r e = absurd (let u : ◌≡◌ {A = ℕ} 0 1 = cc in omega arith)
+-- what `ok_or` tells of a value that is not there
+pub refusal_from_ok_or : {X : Type 0} (found : Option X) (refusal r : Refusal) → Err r ≡ ok_or found refusal → r ≡ refusal
+refusal_from_ok_or None refusal r e = cc
+refusal_from_ok_or (Some x) refusal r e = absurd (let u : ◌≡◌ {A = ℕ} 0 1 = cc in omega arith)
 
 -- the same lists and kinds under other names
 moved : {cat : Described} {d : Draft} {vs ws hd : List Token} {ls : List Atom} {k : Token → Option ℕ} → vs ≡ ws → Seen cat d vs hd ls k → Seen cat d ws hd ls k

@@ -70,6 +70,7 @@ impl Query {
 }
 
 // Over every catalogue every text is the text of one query, or has one refusal, and never both.
+#[tactic(auto, using(crate::proofs::Single::one_answer))]
 pub fn each_text_has_one_answer()
     ensures theorem { OneAnswer }
 {}

@@ -1,13 +1,13 @@
 use Rattle.std.proofs.Common.{sym, ◌∙◌, rules}
 use Rattle.std.proofs.lemmas.Result.{err_from_is_err_and}
-use Rattle.query.proofs.Taking.{told_none_there, no_source, ninth, source_taken, source_small}
+use Rattle.query.proofs.Taking.{refusal_from_ok_or, no_source, ninth, source_taken, source_small}
 use Rattle.query.proofs.draft.Draft.take_source.Goals as goal
 
 pub returns-in_err-source : goal.returns-in_err-source
 returns-in_err-source c = record {
   taken = λ cat p s.
       let e = err_from_is_err_and c.from_residual.result c.from_residual.ensures.1 in
-      rw (e.1, e.2, told_none_there c.find_source.result _ _ c.in_err-source.ensures.value) (no_source cat c.args.self.now c.args.token.now s (sym c.if-not-is_name.ensures.value) (sym c.find_source.ensures.value ∙ c.in_err-source.ensures.ok_part));
+      rw (e.1, e.2, refusal_from_ok_or c.find_source.result _ _ c.in_err-source.ensures.value) (no_source cat c.args.self.now c.args.token.now s (sym c.if-not-is_name.ensures.value) (sym c.find_source.ensures.value ∙ c.in_err-source.ensures.ok_part));
 }
 
 pub returns-then-len-ge-LITERAL_MAX : goal.returns-then-len-ge-LITERAL_MAX
