@@ -1,4 +1,5 @@
-// What the texts of catalogues and queries share: bytes, tokens, names, and the word at a fault.
+// What the texts of catalogues and queries share: bytes, tokens, names, the reading of a text, and the
+// word at a fault.
 #![tactic(auto)]
 
 pub mod class;
