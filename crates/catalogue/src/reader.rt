@@ -27,9 +27,12 @@ const GIVEN_MAX: usize = 3;
 fn mark_of(token: &[u8]) -> Option<Mark>
     ensures value { result ≡ mark_read token.now }
 {
-    match token {
-        [b'b'] => Some(Mark::Given),
-        [b'f'] => Some(Mark::Free),
+    let [letter] = token else {
+        return None;
+    };
+    match char::from(*letter) {
+        'b' => Some(Mark::Given),
+        'f' => Some(Mark::Free),
         _ => None,
     }
 }

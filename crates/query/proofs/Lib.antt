@@ -5,4 +5,3 @@ pub mod Taking
 pub mod Placing
 pub mod Answering
 pub mod Single
-pub mod Sources

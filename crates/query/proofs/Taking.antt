@@ -33,7 +33,7 @@ use Rattle.query.specs.Plain.{Term, constant, variable, Literal, plain_term, pla
 use Rattle.query.specs.Records.{term_of, literal_of}
 use Rattle.query.specs.Rules.{Atom, items, Part, due, listed, known, kinds_at, kind_of}
 use Rattle.query.specs.Reading.{is_arrow, atom_of, fits, next, refusal, wrong, Seen, Behind, Begins, StageAt, start, wanted_literal, named_head, named_literal, due_head, due_literal, listed_head, listed_literal, headed, closed_literal, whole, ReadAt, Stands, TermTaken, term_taken}
-use Rattle.query.proofs.Sources.{few_sources, as_many_columns, few_columns}
+use Rattle.catalogue.proofs.Facts.{few_sources, as_many_columns, few_columns}
 use Rattle.query.proofs.Spelling.{not_both_forms}
 use Rattle.query.proofs.Growing.{known_variable, known_other, known_closed, all_known, literals_known, terms_kept, literals_kept, all_fitting_kept, all_fitting_push, literal_fits, kind_of_push, kind_closed, kind_same, kinds_grown, unused_grown, kinds_noted, unused_noted}
 

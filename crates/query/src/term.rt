@@ -4,12 +4,23 @@ ghost use Rattle.bounded.specs.Held.{held};
 ghost use Rattle.query.specs.Plain.{plain_literal, plain_term};
 
 use bounded::Bounded;
+use std::fmt;
 
 // A value, or the number of a variable.
 #[derive(Clone, Copy, PartialEq, Eq, Debug)]
 pub enum Term {
     Constant(u32),
     Variable(u8),
+}
+
+// As it stands in a record: the value, or `v` and the variable's number.
+impl fmt::Display for Term {
+    fn fmt<W: fmt::Write>(&self, f: &mut fmt::Formatter<W>) -> fmt::Result {
+        match *self {
+            Term::Constant(value) => write!(f, "{value}"),
+            Term::Variable(number) => write!(f, "v{number}"),
+        }
+    }
 }
 
 // The most terms of a literal.

@@ -57,10 +57,7 @@ fn show_terms(rt: &HostRuntime, terms: &[Term]) -> anyhow::Result<()> {
         if i > 0 {
             print!(rt; ",")?;
         }
-        match *term {
-            Term::Constant(value) => print!(rt; "{value}")?,
-            Term::Variable(number) => print!(rt; "v{number}")?,
-        }
+        print!(rt; "{term}")?;
     }
     Ok(())
 }
