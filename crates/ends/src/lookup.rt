@@ -43,6 +43,7 @@ impl Lookup<'_> {
     // Writes the rows that hold the inputs from the start of the memory, and returns how many they are.
     // Where the given columns stand first, the rows that hold the inputs stand together: their first is
     // found by halving, and the scan ends behind their last.
+    #[tactic(auto, using(crate::proofs::Scanning::scanned_none))]
     pub(crate) fn write(&self, memory: &mut [u32]) -> usize
         requires room { 256 ≤ length memory.old }
         ensures count { result ≡ length (found (table_marks self.now.table.now) self.now.inputs.now (table_cells self.now.table.now)) }

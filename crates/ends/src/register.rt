@@ -50,6 +50,7 @@ impl Source for Register {
         self.table.marks()
     }
 
+    #[tactic(auto, using(crate::specs::Storing::answered))]
     fn call(&mut self, inputs: &[u32], memory: &mut [u32]) -> Result<usize, Fault> {
         admit(self.table.marks(), inputs, memory.len())?;
         let lookup = Lookup {

@@ -4,15 +4,9 @@ use Rattle.bounded.proofs.Holding.{length_most}
 use Rattle.source.specs.declared.mark.Mark.{Mark}
 use Rattle.source.specs.Marks.{inputs_of, matches}
 use Rattle.files.specs.Tables.{table_marks, table_cells}
-use Rattle.ends.proofs.Scanning.{scanned_none, scanned_one_more, scanned_no_more, room_for_row, none_beyond, part_inside, part_row}
+use Rattle.ends.proofs.Scanning.{scanned_one_more, scanned_no_more, room_for_row, none_beyond, part_inside, part_row}
 use Rattle.ends.proofs.lookup.Lookup.write.Goals.{then-holds_inputs, else-holds_inputs+else-leads}
 use Rattle.ends.proofs.lookup.Lookup.write.Goals as goal
-
-pub loop-cells-init : goal.loop-cells-init
-loop-cells-init c =
-    let t = c.args.self.now.table.now in
-    let i : c.start-start.result + 0 ≡ c.start-start.result = omega arith in
-    rw i (scanned_none (table_marks t) c.args.self.now.inputs.now (table_cells t) c.args.memory.now c.start-start.result c.start-start.ensures.none)
 
 pub put_row-requires : goal.put_row-requires
 put_row-requires c =
