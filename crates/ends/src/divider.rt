@@ -36,6 +36,7 @@ impl Source for Divider {
         &[Mark::Given, Mark::Free, Mark::Free]
     }
 
+    #[tactic(auto, using(crate::specs::Dividing::answered))]
     fn call(&mut self, inputs: &[u32], memory: &mut [u32]) -> Result<usize, Fault> {
         admit(self.marks(), inputs, memory.len())?;
         let dividend = inputs[0];
