@@ -13,6 +13,3 @@ length_most l = omega (arith, length_held l, l.within)
 -- where there is room, a push adds
 pub pushed : {X : Type 0} {n : ℕ} (old new : Bounded X n) (x : X) (b : Bool) → b ≡ ltb old.used n → held new ≡ cond b (held old ++ x ∷ []) (held old) → length (held old) < n → held new ≡ held old ++ x ∷ []
 pushed {n = n} old new x b e f h = f ∙ rw (e ∙ lt-ltb old.used n (omega (arith, length_held old))) refl
-
-pub held_none : {X : Type 0} {n : ℕ} (l : Bounded X n) → l.used ≡ 0 → held l ≡ []
-held_none l e = rw e refl

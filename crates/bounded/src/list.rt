@@ -13,6 +13,7 @@ pub struct Bounded<T, const N: usize> {
     ghost within: { used ≤ N },
 }
 
+// Written out, since the derive is refused on a generic struct that has ghost fields.
 impl<T: Copy, const N: usize> Clone for Bounded<T, N> {
     ghost is_clone = { λ list copied. copied ≡ list };
 

@@ -30,11 +30,7 @@ fn open(rt: &(impl Files + Print + AllocGlobal), path: &str) -> anyhow::Result<R
     let bytes = fs::read(rt, path)?;
     let mut register = Register::new();
     register.open(&bytes).map_err(|fault| refused(path, fault))?;
-    print!(rt; "register {path}:")?;
-    for mark in register.marks() {
-        print!(rt; " {mark}")?;
-    }
-    println!(rt; "")?;
+    println!(rt; "register {path}:{}", Row(register.marks()))?;
     Ok(register)
 }
 

@@ -4,10 +4,11 @@ use faults::Fault;
 use lexing::word;
 use ordering::order;
 use query::Query;
+use source::Row;
 use std::rt::Files;
 use std::{fmt, fs};
 
-// Bytes of a text, as characters.
+// Bytes of a text, as characters; the table of texts shows its own, with escapes.
 #[derive(Clone, Copy)]
 struct Letters<'a>(&'a [u8]);
 
@@ -35,13 +36,7 @@ fn show_refusal(
 // Prints the order of a query's literals, or the refusal with the literal's place.
 fn show_places(rt: &impl Print, query: &Query) -> anyhow::Result<()> {
     match order(query) {
-        Ok(order) => {
-            print!(rt; "order")?;
-            for place in order.places() {
-                print!(rt; " {place}")?;
-            }
-            println!(rt; "")?;
-        }
+        Ok(order) => println!(rt; "order{}", Row(order.places()))?,
         Err(fault) => println!(rt; "{} at literal {}", fault.refusal, fault.literal)?,
     }
     Ok(())

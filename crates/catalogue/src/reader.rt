@@ -23,7 +23,7 @@ const KINDS_MAX: usize = 16;
 
 const GIVEN_MAX: usize = 3;
 
-// The mark that a token is.
+// The mark that a token is. It is no `TryFrom` of marks, since letters are read as marks only here.
 fn mark_of(token: &[u8]) -> Option<Mark>
     ensures value { result ≡ mark_read token.now }
 {
@@ -124,7 +124,8 @@ impl Reader {
         Ok(Stage::Kinded(entry, kind))
     }
 
-    // The stage behind a token.
+    // The stage behind a token. A match, since the stages are these and no others: closures or trait
+    // objects for them would only hide which there are.
     fn step(&mut self, token: &[u8]) -> Result<Stage, Refusal>
         ensures taken { (p : Part) → Tied self.old p → Taken steps (At self.new) p token.now result }
     {

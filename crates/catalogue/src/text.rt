@@ -40,6 +40,9 @@ impl Catalogue {
         self.kinds.len()
     }
 
+    // The next four lend one part each of what stands at a place, and share no helper: through one,
+    // each of them would need a proof of its own.
+
     // The name of a source; empty where there is no such source.
     pub fn source_name(&self, source: usize) -> &[u8]
         ensures value { result.now ≡ slice_index_or (source_names self.now) source [] }

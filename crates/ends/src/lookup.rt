@@ -42,7 +42,8 @@ impl Lookup<'_> {
 
     // Writes the rows that hold the inputs from the start of the memory, and returns how many they are.
     // Where the given columns stand first, the rows that hold the inputs stand together: their first is
-    // found by halving, and the scan ends behind their last.
+    // found by halving, and the scan ends behind their last. The rows are counted by hand, since as
+    // chains the two scans would be two: `take_while` where the given columns lead, `filter` elsewhere.
     #[tactic(auto, using(crate::proofs::Scanning::scanned_none))]
     pub(crate) fn write(&self, memory: &mut [u32]) -> usize
         requires room { 256 ≤ length memory.old }

@@ -14,8 +14,8 @@ pub struct Head {
     pub at: usize,
 }
 
-// Reads a row, and answers where it ends. A cursor of the bytes and the place would be no plainer: only
-// this function takes both.
+// Reads a row, and answers where it ends. A struct of the bytes and the place would be no plainer: each
+// call would build it for one place, since contracts speak of places of the whole.
 fn read_row(bytes: &[u8], at: usize, columns: usize) -> Result<([u32; 4], usize), Fault>
     requires at { at ≤ length bytes.now }
     requires columns { columns ≤ 4 }
@@ -31,7 +31,7 @@ fn read_row(bytes: &[u8], at: usize, columns: usize) -> Result<([u32; 4], usize)
     Ok((row, to))
 }
 
-// Reads the header.
+// Reads the header. Its numbers become sizes by `as`: a size has no `From` of 32 bits.
 #[tactic(auto, using(crate::proofs::Heads::told, crate::proofs::Heads::cut_0, crate::proofs::Heads::range_0, crate::proofs::Heads::cut_1))]
 fn read_head(bytes: &[u8]) -> Result<Head, Fault>
     ensures { HeadRead bytes.now result }

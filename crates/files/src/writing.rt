@@ -29,7 +29,7 @@ pub(crate) fn rows_size(columns: &Columns, rows: &[[u32; 4]]) -> usize
         .sum()
 }
 
-// The numbers of the header.
+// The numbers of the header. Both sizes are small: `try_from` would add a refusal that never comes.
 fn header(rows: &Rows) -> [u32; 3]
     ensures { result ≡ header_numbers (rows_marks rows.now) (length (rows_values rows.now)) }
 {
@@ -50,7 +50,7 @@ pub(crate) fn file_size(rows: &Rows) -> usize
 }
 
 // Writes values one after another where there is room for them, and answers the place behind them. A
-// cursor of the memory and the place would be no plainer: only this function takes both.
+// struct of the memory and the place would be no plainer: the two calls would build it and take it apart.
 fn put_values(memory: &mut [u8], at: usize, values: &[u32]) -> usize
     requires { at + length (encodes values.now) ≤ length memory.old }
     ensures place { result ≡ at + length (encodes values.now) }
@@ -58,10 +58,7 @@ fn put_values(memory: &mut [u8], at: usize, values: &[u32]) -> usize
 {
     let mut to = at;
     for value in values {
-        match numbers::write(memory, to, *value) {
-            Ok(count) => to += count,
-            Err(_) => unreachable(),
-        }
+        to += numbers::write(memory, to, *value).unwrap();
     }
     to
 }

@@ -27,7 +27,7 @@ impl Asked {
         }
     }
 
-    // Whether the same inputs ask under the same marks.
+    // Whether the same inputs ask under the same marks: the derived `==`, in the words of the definitions.
     pub(crate) fn is_same(&self, other: &Asked) -> bool
         ensures { result ≡ (same_marks (held self.now.marks) (held other.now.marks) && same (held self.now.inputs) (held other.now.inputs)) }
     {

@@ -12,7 +12,8 @@ pub const ENTRY_ROWS: usize = 8;
 // How many values an entry has at the most: eight rows of four columns.
 pub const ENTRY_VALUES: usize = 32;
 
-// The rows that a source answered: how many they are, and their values one row after another.
+// The rows that a source answered: how many they are, and their values one row after another, as they
+// stand in an answer memory, so that they are copied there at once.
 #[derive(Drop)]
 pub struct Entry {
     pub asked: Asked,

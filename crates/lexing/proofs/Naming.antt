@@ -23,14 +23,6 @@ same_is xs ys e = (bytes_eq-Decides xs ys).0 e
 pub same_self : (xs : List ℕ) → bytes_eq xs xs ≡ true
 same_self xs = (bytes_eq-Decides xs xs).1 refl
 
-pub same_decided : (xs ys : List ℕ) (r : Bool) → Decides r (xs ≡ ys) → r ≡ bytes_eq xs ys
-same_decided xs ys true d = sym ((bytes_eq-Decides xs ys).1 (d.0 refl))
-same_decided xs ys false d = go (cases_Bool (bytes_eq xs ys))
-  where
-    go : (bytes_eq xs ys ≡ true) ⊎ (bytes_eq xs ys ≡ false) → false ≡ bytes_eq xs ys
-    go (inl e) = absurd (both_ways _ refl (d.1 (same_is xs ys e)))
-    go (inr e) = sym e
-
 -- the first place is the one that the library's search finds
 pub place_position : {X : Type 0} (name : X → Token) (t : Token) (xs : List X) → position (λ x. bytes_eq t (name x)) xs ≡ place_of t (map name xs)
 place_position name t [] = refl

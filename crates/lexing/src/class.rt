@@ -13,7 +13,7 @@ pub enum Class {
     Other,
 }
 
-// The classes stay a table of 256 entries by a rule of the project: one look-up tells a byte's class.
+// A table and no match, by a rule of the project: each byte takes one look-up, whatever its class.
 static CLASSES: [Class; 256] = [
     Class::Other,
     Class::Other,

@@ -115,7 +115,7 @@ pub fn number_in(list: &mut Bounded<Name, 16>, token: &[u8], limit: usize) -> Op
 {
     let name = to_name(token)?;
     if let Some(i) = position(list.as_slice(), token) {
-        return Some(i as u8);
+        return Some(i as u8); // below 16: `try_from` would add a refusal that never comes
     }
     let count = list.len();
     if count >= limit || !list.push(name) {

@@ -13,6 +13,7 @@ const WORD_MAX: usize = 16;
 fn text_of<'a>(number: u8, catalogue: &'a [u8], query: &'a [u8]) -> &'a [u8]
     ensures value { result.now ≡ text_of number catalogue.now query.now }
 {
+    // By number, as the format says it: a range has room for refusals that are still to come.
     match number {
         1..=3 => catalogue,
         11..=16 => query,

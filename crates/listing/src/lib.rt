@@ -127,8 +127,8 @@ impl<'m> AnswerList<'m> {
         let AnswerList {
             memory: _,
             places: _,
-            listed,
+            listed: count,
         } = self;
-        listed
+        count
     }
 }

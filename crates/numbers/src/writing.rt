@@ -27,7 +27,7 @@ fn put_groups(memory: &mut [u8], value: u32)
 {
     if let Some((first, rest)) = memory.split_first_mut() {
         if value < GROUP {
-            *first = value as u8;
+            *first = value as u8; // a group: `try_from` would add a refusal that never comes
         } else {
             *first = (GROUP + value % GROUP) as u8;
             put_groups(rest, value / GROUP);

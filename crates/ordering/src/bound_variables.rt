@@ -46,6 +46,7 @@ impl BoundVariables {
     {
         for term in terms {
             if let Term::Variable(v) = *term {
+                // By index: where `get_mut` lends a cell, the library does not say what the cells end as.
                 let v = usize::from(v);
                 if v < self.cells.len() {
                     self.cells[v] = true;

@@ -51,7 +51,8 @@ impl<'a, Q: Conjunction> Search<'a, Q> {
                 .are_enough(self.query.marks(literal), self.query.terms(literal))
     }
 
-    // The places of the literals, lowest first.
+    // The places of the literals, lowest first. There are eight at most: the cast loses nothing, and
+    // `try_from` would add a case that never comes.
     fn places(&self) -> Range<u8>
         ensures from { result.start ≡ 0 }
         ensures to { result.end ≡ length (Q.literals self.now.query.now) }

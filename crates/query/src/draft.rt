@@ -114,7 +114,8 @@ impl Draft {
         if self.literals.len() >= LITERAL_MAX {
             return Err(Refusal::QueryLimit);
         }
-        Ok(Stage::Named(Begun::Literal(Literal::new(source as u8))))
+        let source = source as u8; // below 8: `try_from` would add a refusal that never comes
+        Ok(Stage::Named(Begun::Literal(Literal::new(source))))
     }
 
     // A variable of the head.
@@ -222,7 +223,8 @@ impl Draft {
         }
     }
 
-    // Takes a token at a stage; what is due next.
+    // Takes a token at a stage; what is due next. A match, since the stages are these and no others:
+    // closures or trait objects for them would only hide which there are.
     pub(crate) fn take(&mut self, stage: Stage, token: &[u8]) -> Result<Stage, Refusal>
         ensures taken { (cat : Described) (p : Part) → Stands cat self.old stage p → Taken (steps cat) (Stands cat self.new) p token.now result }
     {

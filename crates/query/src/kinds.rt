@@ -37,6 +37,7 @@ impl Kinds {
         if let Some(known) = self.get(variable) {
             return known == kind;
         }
+        // By index: where `get_mut` lends a cell, the library does not say what the cells end as.
         let i = usize::from(variable);
         if i < self.cells.len() {
             self.cells[i] = Some(kind);

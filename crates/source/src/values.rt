@@ -35,7 +35,8 @@ pub fn count_inputs(marks: &[Mark]) -> usize
     marks.iter().filter(|mark| mark.is_given()).count()
 }
 
-// Whether a row holds the inputs in its given columns.
+// Whether a row holds the inputs in its given columns. As a chain of `filter` and `map` that ends in `eq`
+// it was tried, and the proof did not close.
 pub fn holds_inputs(marks: &[Mark], inputs: &[u32], row: &[u32]) -> bool
     ensures value { result ≡ matches marks.now inputs.now row.now }
 {

@@ -8,6 +8,7 @@ use catalogue::Catalogue;
 use faults::Fault;
 use lexing::word;
 use query::{Query, Term};
+use source::Row;
 use std::fmt;
 
 // Bytes of a text, those that are no ASCII signs as numbers.
@@ -63,11 +64,7 @@ fn show_terms(rt: &HostRuntime, terms: &[Term]) -> anyhow::Result<()> {
 }
 
 fn show_record(rt: &HostRuntime, q: &Query) -> anyhow::Result<()> {
-    print!(rt; "accepted, head")?;
-    for number in q.head() {
-        print!(rt; " {number}")?;
-    }
-    print!(rt; ", literals")?;
+    print!(rt; "accepted, head{}, literals", Row(q.head()))?;
     for literal in q.literals() {
         print!(rt; " {}(", literal.source())?;
         show_terms(rt, literal.terms())?;

@@ -56,7 +56,8 @@ impl Rows {
         self.cells.as_slice()
     }
 
-    // The first of the rows that has 64 earlier ones with its inputs.
+    // The first of the rows that has 64 earlier ones with its inputs. As `position` of a closure over
+    // `enumerate` it was tried, and the proof did not close.
     #[tactic(auto, using(crate::proofs::Matching::earlier_counted))]
     pub(crate) fn first_crowded(&self) -> Option<usize>
         ensures { CrowdFound (rows_marks self.now) (rows_values self.now) result }
