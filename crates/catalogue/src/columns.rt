@@ -7,7 +7,7 @@ use lexing::{Name, Named};
 use source::Mark;
 
 // The number of each column's kind, and each column's mark. The two stay lists of their own since
-// each is lent as a slice.
+// each is lent as a slice. The columns of files are another type: at least one, and without kinds.
 #[derive(Clone, Copy)]
 pub struct Columns {
     pub(crate) kinds: Bounded<u8, 4>,

@@ -70,7 +70,8 @@ fn read_tokens<R: TokenReader>(mut reader: R, text: &[u8]) -> Result<R, Flaw>
     Ok(reader)
 }
 
-// Reads a whole text: the reader behind it, or what is wrong with the text first, its length too.
+// Reads a whole text: the reader behind it, or what is wrong with the text first, its length too. A match
+// and no `?`, since the length judges both outcomes: it refuses a reader, and may come before a flaw.
 pub fn read<R: TokenReader>(reader: R, text: &[u8]) -> Result<R, Flaw>
     ensures read { (x : R.Given) → R.StandsBehind x reader (R.steps x).start → HasRead (R.grammar x) (R.steps x) (R.StandsBehind x) text.now result }
 {

@@ -23,7 +23,8 @@ use faults::Refusal;
 use lexing::{NAME_MAX, Name, is_byte, is_name, number_in};
 
 // The variables that are read, with the kinds in which they stand, those of the head, and the
-// literals.
+// literals. A query has the same fields but the kinds, and is no part of a draft: what its ghost field
+// says of them holds only when the text has ended.
 #[derive(Clone, Copy)]
 pub(crate) struct Draft {
     pub(crate) catalogue: Catalogue,
