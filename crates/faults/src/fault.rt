@@ -127,7 +127,7 @@ fn byte(field: u8) -> Shown {
     Shown((field != UNKNOWN).then_some(u16::from(field)))
 }
 
-// As it stands in a record: the refusal, and each number behind its name.
+// The refusal, and each number behind its name, with a dash for what is not known.
 impl fmt::Display for Fault {
     fn fmt<W: fmt::Write>(&self, f: &mut fmt::Formatter<W>) -> fmt::Result {
         write!(
