@@ -23,11 +23,11 @@ impl Columns {
     pub(crate) fn of_marks(marks: &[Mark]) -> Option<Columns>
         ensures { Copied marks.now result }
     {
+        let list = Bounded::from_slice(marks, Mark::Free)?;
         if marks.is_empty() || count_inputs(marks) > GIVEN_MAX {
             return None;
         }
-        let marks = Bounded::from_slice(marks, Mark::Free)?;
-        Some(Columns { marks })
+        Some(Columns { marks: list })
     }
 
     // The columns of a number of marks: refused if it has another bit, or more than three.
