@@ -1,5 +1,7 @@
 -- Counting and comparing the given columns, one column after another.
-use Rattle.std.proofs.Common.{◌≡◌, ℕ, suc, true, false, ◌⊎◌, List, [], ◌∷◌, length, filter, Decides, sym, refl, ap, subst, inl, inr, arith, ◌==◌}
+use Rattle.std.proofs.Common.{◌≡◌, ℕ, true, false, ◌⊎◌, ◌+◌, List, [], ◌∷◌, length, sum_by, Decides, sym, refl, ◌≤◌, subst, inl, inr, arith, ◌==◌}
+use Rattle.std.specs.Int.{from_bool}
+use Rattle.std.proofs.lemmas.List.Sums.{sum_by-cons}
 use Rattle.std.proofs.lemmas.Bool.{and_parts, eq-eqb, ne_eqb, and_from, false≢true}
 use Rattle.std.specs.Cmp.Lexicographic.{pointwise}
 use Rattle.std.proofs.lemmas.Slice.Eq.{slice_eq-Decides}
@@ -10,11 +12,20 @@ use Rattle.source.specs.Rows.{same}
 use Rattle.source.proofs.Tests.{deciders_agree}
 use Rattle.source.specs.Marks.{is_given, inputs_of, picked, same_mark, same_marks}
 
--- the given marks are as many as the inputs
-pub given_counted : (ms : List Mark) → length (filter is_given ms) ≡ inputs_of ms
-given_counted [] = refl
-given_counted (Given ∷ ms) = ap suc (given_counted ms)
-given_counted (Free ∷ ms) = given_counted ms
+-- a given column takes one input, and a free one none
+abbrev pub one_if_given : Mark → ℕ
+one_if_given m = from_bool (is_given m)
+
+pub given_summed : (ms : List Mark) → sum_by one_if_given ms ≡ inputs_of ms
+given_summed [] = refl
+given_summed (Given ∷ ms) = let one : sum_by one_if_given (Given ∷ ms) ≡ 1 + sum_by one_if_given ms = sum_by-cons one_if_given Given ms in omega (arith, one, given_summed ms)
+given_summed (Free ∷ ms) = let none : sum_by one_if_given (Free ∷ ms) ≡ 0 + sum_by one_if_given ms = sum_by-cons one_if_given Free ms in omega (arith, none, given_summed ms)
+
+-- a call takes at most one input for each column
+pub inputs_of_most : (ms : List Mark) → inputs_of ms ≤ length ms
+inputs_of_most [] = omega arith
+inputs_of_most (Given ∷ ms) = omega (arith, inputs_of_most ms)
+inputs_of_most (Free ∷ ms) = omega (arith, inputs_of_most ms)
 
 -- what a row holds in the given columns, one column after another
 module _ {ms ms' : List Mark} {vs vs' : List ℕ} {v : ℕ} where

@@ -32,7 +32,7 @@ pub fn same_marks(marks: &[Mark], others: &[Mark]) -> bool
 pub fn count_inputs(marks: &[Mark]) -> usize
     ensures value { result ≡ inputs_of marks.now }
 {
-    marks.iter().filter(|mark| mark.is_given()).count()
+    marks.iter().map(|mark| usize::from(mark.is_given())).sum()
 }
 
 // Whether a row holds the inputs in its given columns. As a chain of `filter` and `map` that ends in `eq`
