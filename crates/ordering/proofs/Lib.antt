@@ -4,3 +4,4 @@ pub mod Theorems
 pub mod Binding
 pub mod Lowest
 pub mod Examples
+pub mod Asking
