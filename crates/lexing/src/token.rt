@@ -14,15 +14,14 @@ fn run_length(bytes: &[u8]) -> usize
     run.count()
 }
 
-// How many bytes the first token has; none where there is none.
+// How many bytes the first token has, where there is one.
 #[tactic(auto, using(crate::proofs::Lexing::run_first, crate::proofs::Lexing::arrow_first, crate::proofs::Lexing::byte_first))]
 fn token_length(bytes: &[u8]) -> usize
     ensures cut { 0 < length bytes.now → Cut bytes.now 0 result }
 {
     match bytes {
-        [] => 0,
-        [b':', b'-', ..] => 2,
         [first, ..] if Alphabet::Words.has(*first) => run_length(bytes),
+        [b':', b'-', ..] => 2,
         _ => 1,
     }
 }
