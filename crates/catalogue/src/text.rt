@@ -19,7 +19,8 @@ impl Catalogue {
     pub fn read(text: &[u8]) -> Result<Catalogue, Fault>
         ensures read { Read text.now result }
     {
-        let reader = read(Reader::new(), text)?;
+        let mut reader = Reader::new();
+        read(&mut reader, text)?;
         Ok(Catalogue {
             kinds: reader.kinds,
             entries: reader.entries,

@@ -52,14 +52,14 @@ fn take_placed<R: TokenReader>(reader: &mut R, token: Token) -> Result<(), Flaw>
 }
 
 // What the tokens of a text give, its length aside.
-fn read_tokens<R: TokenReader>(mut reader: R, text: &[u8]) -> Result<R, Flaw>
-    ensures gone { (x : R.Given) → R.StandsBehind x reader (R.steps x).start → WentThrough (R.grammar x) (R.steps x) (R.StandsBehind x) text.now result }
+fn read_tokens<R: TokenReader>(reader: &mut R, text: &[u8]) -> Result<(), Flaw>
+    ensures gone { (x : R.Given) → R.StandsBehind x reader.old (R.steps x).start → WentThrough (R.grammar x) (R.steps x) (λ _. R.StandsBehind x reader.new) text.now result }
 {
     for token in Tokens::new(text) {
         if R::passes_over(token.bytes) {
             continue;
         }
-        take_placed(&mut reader, token)?;
+        take_placed(reader, token)?;
     }
     if !reader.is_whole() {
         return Err(Flaw {
@@ -67,20 +67,20 @@ fn read_tokens<R: TokenReader>(mut reader: R, text: &[u8]) -> Result<R, Flaw>
             place: text.len(),
         });
     }
-    Ok(reader)
+    Ok(())
 }
 
-// Reads a whole text: the reader behind it, or what is wrong with the text first, its length too. A match
-// and no `?`, since the length judges both outcomes: it refuses a reader, and may come before a flaw.
-pub fn read<R: TokenReader>(reader: R, text: &[u8]) -> Result<R, Flaw>
-    ensures read { (x : R.Given) → R.StandsBehind x reader (R.steps x).start → HasRead (R.grammar x) (R.steps x) (R.StandsBehind x) text.now result }
+// Reads a whole text: the reader is behind it then, or what is wrong with the text first, its length too.
+// A match and no `?`, since the length judges both outcomes: it refuses a reader, and may come before a flaw.
+pub fn read<R: TokenReader>(reader: &mut R, text: &[u8]) -> Result<(), Flaw>
+    ensures read { (x : R.Given) → R.StandsBehind x reader.old (R.steps x).start → HasRead (R.grammar x) (R.steps x) (λ _. R.StandsBehind x reader.new) text.now result }
 {
     match read_tokens(reader, text) {
-        Ok(_) if text.len() > TEXT_MAX => Err(Flaw {
+        Ok(()) if text.len() > TEXT_MAX => Err(Flaw {
             refusal: R::limit(),
             place: TEXT_MAX,
         }),
-        Ok(reader) => Ok(reader),
+        Ok(()) => Ok(()),
         Err(flaw) => Err(with_length(flaw, text.len(), R::limit())),
     }
 }

@@ -18,7 +18,9 @@ impl Query {
     pub fn read(catalogue: Catalogue, text: &[u8]) -> Result<Query, Fault>
         ensures read { Read catalogue text.now result }
     {
-        let draft = read(Reader::new(catalogue), text)?.draft;
+        let mut reader = Reader::new(catalogue);
+        read(&mut reader, text)?;
+        let draft = &reader.draft;
         if let Some(i) = draft.first_missing() {
             let place = place_of_token(text, 2 * i + 2);
             return Err(Fault::placed(Refusal::HeadVariableMissing, place));
