@@ -238,6 +238,9 @@ module _ (cat : Described) (d : Draft) (t : Token) (form : is_variable t ≡ tru
       go : {p : Part} → StageAt cat (at.Due atom.Head) p → ReadAt cat d p → wrong cat p t ≡ Some QueryLimit
       go (due_head n ts) read = head_over n ts (rw (le-leb 4 (length ts) (let z = heads_count n ts read in let y = length_held d.head in omega arith)) refl)
 
+  pub fifth_held : {p : Part} → Stands cat d (at.Due atom.Head) p → 4 ≤ length (held d.head) → wrong cat p t ≡ Some QueryLimit
+  fifth_held s h = fifth s (let y = length_held d.head in omega (arith, y, h))
+
   pub head_taken : {p : Part} (more : Bounded (Bounded ℕ 16) 16) (i : ℕ) (head : Bounded ℕ 4) → Stands cat d (at.Due atom.Head) p → Numbered (names d.variables) (names more) t 16 (Some i) → d.head.used < 4 → held head ≡ held d.head ++ i ∷ [] →
       (wrong cat p t ≡ None) × Stands cat (record d { variables = more; head = head }) (at.Listed atom.Head) (next p t)
   head_taken more i head s q few grown = go s.stage s.read

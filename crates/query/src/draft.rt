@@ -120,6 +120,7 @@ impl Draft {
     }
 
     // A variable of the head.
+    #[tactic(auto, using(crate::proofs::Taking::fifth_held))]
     fn take_head_variable(&mut self, token: &[u8]) -> Result<Stage, Refusal>
         ensures taken { (cat : Described) (p : Part) → Stands cat self.old (at.Due atom.Head) p → Taken (steps cat) (Stands cat self.new) p token.now result }
     {
