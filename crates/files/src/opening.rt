@@ -86,11 +86,9 @@ pub(crate) fn load(bytes: &[u8]) -> Result<Rows, Fault>
     if end < bytes.len() {
         return Err(Fault::placed(Refusal::BytesLeftOver, end));
     }
-    match rows.first_crowded() {
-        Some(i) => {
-            let front = rows_size(rows.columns(), &rows.cells()[..i]);
-            Err(Fault::placed(Refusal::TooManyMatches, begin + front))
-        }
-        None => Ok(rows),
+    if let Some(i) = rows.first_crowded() {
+        let front = rows_size(rows.columns(), &rows.cells()[..i]);
+        return Err(Fault::placed(Refusal::TooManyMatches, begin + front));
     }
+    Ok(rows)
 }
