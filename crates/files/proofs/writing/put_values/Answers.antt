@@ -21,5 +21,6 @@ unwrap-to-requires c = roomy _ _ _ _ _ c.write.ensures.written (omega (arith, va
 pub loop-value-preserved : goal.loop-value-preserved
 loop-value-preserved c =
     let fits = value_fits c.loop-value.value-index c.args.values.now c.loop-value-test.true in
-    let w : Written c.loop-value.memory c.write.new.memory c.loop-value.to _ (Ok c.unwrap-to.result) = rw c.unwrap-to.ensures at c.write.ensures.written in
-    rw w.0 (put_value _ _ _ _ _ c.loop-value.value-index c.args.values.now c.loop-value-test.true (omega arith) c.loop-value.invariant w.2)
+    let w : Written c.loop-value.memory c.write.new.memory _ _ (Ok c.unwrap-to.result) = rw c.unwrap-to.ensures at c.write.ensures.written in
+    let put = put_value _ _ _ _ _ c.loop-value.value-index c.args.values.now c.loop-value-test.true (omega arith) (omega arith, c.loop-value.invariant.1) w.2 in
+    (omega (arith, w.0, put.0), put.1)
