@@ -5,9 +5,10 @@ ghost use Rattle.bounded.specs.Held.{held};
 
 use bounded::Bounded;
 use source::Mark;
+use source::values::{same_marks, same_values};
 
 // What a source is asked: a list of inputs, under the marks of its columns.
-#[derive(Clone, Copy, PartialEq, Eq)]
+#[derive(Clone, Copy)]
 pub struct Asked {
     pub marks: Bounded<Mark, 4>,
     pub inputs: Bounded<u32, 3>,
@@ -27,10 +28,11 @@ impl Asked {
         }
     }
 
-    // Whether the same inputs ask under the same marks: the derived `==`, in the words of the definitions.
-    pub(crate) fn is_same(&self, other: &Asked) -> bool
-        ensures { result ≡ (same_marks (held self.now.marks) (held other.now.marks) && same (held self.now.inputs) (held other.now.inputs)) }
+    // Whether it is what these inputs ask under these marks. The inputs come first: under one source the
+    // marks are always the same.
+    pub(crate) fn is_for(&self, marks: &[Mark], inputs: &[u32]) -> bool
+        ensures { result ≡ (same_marks (held self.now.marks) marks.now && same (held self.now.inputs) inputs.now) }
     {
-        self == other
+        same_values(self.inputs.as_slice(), inputs) && same_marks(self.marks.as_slice(), marks)
     }
 }

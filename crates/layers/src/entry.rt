@@ -41,8 +41,8 @@ impl Entry {
     // The entry of the rows that stand from the start of the memory.
     #[tactic(auto, using(crate::proofs::Storing::cut_rows, crate::proofs::Storing::cut_sound))]
     pub(crate) fn of(asked: Asked, count: usize, memory: &[u32]) -> Entry
-        requires room { ENTRY_VALUES ≤ length memory.now }
-        requires count { count ≤ ENTRY_ROWS }
+        requires room { 32 ≤ length memory.now }
+        requires count { count ≤ 8 }
         requires sound { sound (held asked.marks) (held asked.inputs) (rows_in (length (held asked.marks)) count memory.now) ≡ true }
         ensures { kept result ≡ from_memory (held asked.marks) (held asked.inputs) count memory.now }
     {

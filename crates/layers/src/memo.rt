@@ -4,7 +4,6 @@ ghost use Rattle.layers.specs.Memory.{kept_all, memoized, Asks, Learns};
 ghost use Rattle.layers.specs.Memoizing;
 ghost use Rattle.layers.specs.Memoizing.{table_sound};
 
-use crate::asked::Asked;
 use crate::table::Table;
 use faults::Fault;
 use source::{Mark, Source, admit};
@@ -47,12 +46,12 @@ impl<S: Source> Source for Memo<S> {
         ensures learns { Learns self.old.table self.new.table (S.Source.meaning self.old.below).marks inputs.now memory.new result }
     {
         admit(self.below.marks(), inputs, memory.len())?;
-        let asked = Asked::new(self.below.marks(), inputs);
-        if let Some(entry) = self.table.recall(&asked) {
+        if let Some(entry) = self.table.recall(self.below.marks(), inputs) {
             return Ok(entry.write(memory));
         }
         let count = self.below.call(inputs, memory).map_err(Fault::raised)?;
-        self.table.remember(asked, count, memory);
+        self.table
+            .remember(self.below.marks(), inputs, count, memory);
         Ok(count)
     }
 }

@@ -2,14 +2,14 @@ ghost use Rattle.std.specs.Prelude.{◌≡◌, ◌≤◌, true, [], length, is_s
 ghost use Rattle.std.specs.Borrow.{sem, follows_if};
 ghost use Rattle.std.specs.Option.{ghost_name_of as name_of, option_map};
 ghost use Rattle.source.specs.Rows.{rows_in};
-ghost use Rattle.bounded.specs.Held.{held};
 ghost use Rattle.layers.specs.Entries.{sound};
 ghost use Rattle.layers.specs.Memory.{kept, kept_all, recalled, from_memory, Remembers, with_next};
 ghost use Rattle.layers.specs.contracts.table.Table.{the_row};
 ghost use Rattle.layers.specs.contracts.entry.Entry.{the_row as entry_row};
 
 use crate::asked::Asked;
-use crate::entry::{ENTRY_ROWS, ENTRY_VALUES, Entry};
+use crate::entry::{ENTRY_ROWS, Entry};
+use source::Mark;
 use std::alloc::{AllocError, Global};
 
 // How many entries a table has.
@@ -42,29 +42,31 @@ impl Table {
         self.entries.get_mut(next)
     }
 
-    // The first filled entry of what is asked, if there is one.
-    pub(crate) fn recall(&self, asked: &Asked) -> Option<&Entry>
-        ensures { recalled (kept_all self.now) (held asked.now.marks) (held asked.now.inputs) ≡ option_map (λ e. (kept e.now).rows) result }
+    // The first filled entry of these inputs, under these marks, if there is one.
+    pub(crate) fn recall(&self, marks: &[Mark], inputs: &[u32]) -> Option<&Entry>
+        ensures { recalled (kept_all self.now) marks.now inputs.now ≡ option_map (λ e. (kept e.now).rows) result }
     {
         self.entries
             .iter()
             .take(self.used)
-            .find(|entry| entry.asked.is_same(asked))
+            .find(|entry| entry.asked.is_for(marks, inputs))
     }
 
     // Fills the next empty entry with the rows that stand from the start of the memory, if they are
     // few enough and an entry is empty.
     #[tactic(auto, using(source::proofs::Chunks::length_rows_in))]
-    pub(crate) fn remember(&mut self, asked: Asked, count: usize, memory: &[u32])
-        requires room { ENTRY_VALUES ≤ length memory.now }
-        requires sound { count ≤ ENTRY_ROWS → sound (held asked.marks) (held asked.inputs) (rows_in (length (held asked.marks)) count memory.now) ≡ true }
-        ensures { Remembers self.old self.new (from_memory (held asked.marks) (held asked.inputs) count memory.now) }
+    pub(crate) fn remember(&mut self, marks: &[Mark], inputs: &[u32], count: usize, memory: &[u32])
+        requires columns { length marks.now ≤ 4 }
+        requires given { length inputs.now ≤ 3 }
+        requires room { 32 ≤ length memory.now }
+        requires sound { count ≤ 8 → sound marks.now inputs.now (rows_in (length marks.now) count memory.now) ≡ true }
+        ensures { Remembers self.old self.new (from_memory marks.now inputs.now count memory.now) }
     {
         if count > ENTRY_ROWS {
             return;
         }
         if let Some(entry) = self.next_empty() {
-            *entry = Entry::of(asked, count, memory);
+            *entry = Entry::of(Asked::new(marks, inputs), count, memory);
             self.used += 1;
         }
     }
