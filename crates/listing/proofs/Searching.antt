@@ -1,15 +1,17 @@
 -- A binary search among ascending rows.
-use Rattle.std.proofs.Common.{◌≡◌, ℕ, zero, suc, ◌+◌, ◌*◌, ◌/◌, ◌<◌, ◌≤◌, true, List, [], ◌∷◌, length, get_or, take, drop, Ok, Err, Result, sym, refl, ap, ◌∙◌, add-one, arith}
+use Rattle.std.proofs.Common.{◌≡◌, ℕ, zero, suc, ◌+◌, ◌*◌, ◌/◌, ◌<◌, ◌≤◌, true, List, [], ◌∷◌, length, get_or, take, drop, Ok, Err, Result, Option, Some, Ordering, Less, Equal, sym, refl, ap, ◌∙◌, add-one, arith}
 use Rattle.std.specs.Simd.{first_chunks}
 use Rattle.std.specs.Ordering.{is_lt, is_eq, is_gt, nat_cmp}
 use Rattle.std.specs.Cmp.Lexicographic.{slice_cmp}
 use Rattle.std.specs.List.Sorted.{IsBinarySearchResult, IsSearchInRange, IsSortedBy}
-use Rattle.std.proofs.lemmas.Bool.{and_parts, false_from_ne_true}
+use Rattle.std.proofs.lemmas.Bool.{and_parts, or_left, false_from_ne_true}
+use Rattle.std.specs.Option.{option_map}
+use Rattle.std.specs.List.{slice_get}
 use Rattle.std.proofs.lemmas.Cmp.{nat_list_cmp_total}
 use Rattle.std.proofs.lemmas.List.Sorted.{searchable_from_sorted}
-use Rattle.source.specs.Rows.{before, ascending, rows_in}
+use Rattle.source.specs.Rows.{same, before, is_in, ascending, rows_in}
 use Rattle.source.proofs.Rows.{same_eq, before_irrefl, before_trans, ascending_tail}
-use Rattle.listing.specs.Answers.{answers, Spotted}
+use Rattle.listing.specs.Answers.{answers, Belongs, Spotted}
 use Rattle.listing.proofs.Ascents.{in_at, leads_at}
 use Rattle.listing.proofs.Comparing.{is_before, is_behind, is_same}
 
@@ -48,3 +50,26 @@ spotted_among count memory answer cells r room front asc bound found =
     let fits : count ≤ length memory / 4 = omega arith in
     let rows = ap (take count) front ∙ first_cells 4 count (length memory / 4) memory fits in
     spotted (answers count memory) answer r asc (rw (← rows) bound) (rw (← rows) found)
+
+-- The first of the rows, compared with a row before the search.
+module _ (count : ℕ) (memory answer : List ℕ) (cells : List (List ℕ)) (room : 4 * count ≤ length memory) (front : cells ≡ first_chunks 4 (length memory / 4) memory) where
+  cells_are_rows : take count cells ≡ answers count memory
+  cells_are_rows = let fits : count ≤ length memory / 4 = omega arith in ap (take count) front ∙ first_cells 4 count (length memory / 4) memory fits
+
+  abbrev compared_first : Option Ordering
+  compared_first = option_map (λ first. slice_cmp nat_cmp answer first) (slice_get (take count cells) 0)
+
+  -- a row that comes before the first belongs in front
+  pub first_behind : compared_first ≡ Some Less → Belongs (answers count memory) answer 0
+  first_behind e = go (answers count memory) (ap (λ rows. option_map (λ first. slice_cmp nat_cmp answer first) (slice_get rows 0)) (sym cells_are_rows) ∙ e)
+    where
+      go : (rows : List (List ℕ)) → option_map (λ first. slice_cmp nat_cmp answer first) (slice_get rows 0) ≡ Some Less → Belongs rows answer 0
+      go [] e = cc
+      go (r ∷ rows) e = record { inside = omega arith; above = λ k h. absurd (omega arith); below = let less : slice_cmp nat_cmp answer r ≡ Less = cc in sym (is_before answer r) ∙ ap is_lt less }
+
+  pub first_found : compared_first ≡ Some Equal → is_in answer (answers count memory) ≡ true
+  first_found e = go (answers count memory) (ap (λ rows. option_map (λ first. slice_cmp nat_cmp answer first) (slice_get rows 0)) (sym cells_are_rows) ∙ e)
+    where
+      go : (rows : List (List ℕ)) → option_map (λ first. slice_cmp nat_cmp answer first) (slice_get rows 0) ≡ Some Equal → is_in answer rows ≡ true
+      go [] e = cc
+      go (r ∷ rows) e = or_left (same answer r) (is_in answer rows) (let equal : slice_cmp nat_cmp answer r ≡ Equal = cc in sym (is_same answer r) ∙ ap is_eq equal)

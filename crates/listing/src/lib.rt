@@ -7,6 +7,8 @@ ghost use Rattle.std.specs.List.{insert as list_insert};
 ghost use Rattle.source.specs.Rows.{ascending};
 ghost use Rattle.listing.specs.Answers.{answers, places_in, cleared, count_listed, listing, Added, Spotted};
 
+use std::cmp::Ordering;
+
 // The most answers that are listed.
 pub const MOST_ANSWERS: usize = 1024;
 
@@ -37,7 +39,8 @@ pub fn clear_places(memory: &mut [u32])
     memory[0..4 * places].fill(0);
 }
 
-// The place of an answer among the listed ones, or the place where it belongs.
+// The place of an answer among the listed ones, or the place where it belongs. The first one is compared
+// before the search, so that an answer that stands or belongs in front of all others is placed at once.
 #[tactic(auto, using(crate::proofs::Searching::spotted_among))]
 fn find_spot(memory: &[u32], count: usize, answer: &[u32; 4]) -> Result<usize, usize>
     requires room { 4 * count ≤ length memory.now }
@@ -45,7 +48,12 @@ fn find_spot(memory: &[u32], count: usize, answer: &[u32; 4]) -> Result<usize, u
     ensures value { Spotted (answers count memory.now) answer.now result }
 {
     let (cells, _) = memory.as_chunks::<4>();
-    cells[..count].binary_search(answer)
+    let listed = &cells[..count];
+    match listed.first().map(|first| answer.cmp(first)) {
+        Some(Ordering::Less) => Err(0),
+        Some(Ordering::Equal) => Ok(0),
+        _ => listed.binary_search(answer),
+    }
 }
 
 // Moves the answers from a place on by one, and writes an answer there.
