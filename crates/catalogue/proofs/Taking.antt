@@ -105,11 +105,10 @@ module _ (r : Reader) (t : Token) (ls : List Line) (s : Seen r (kinds_in ls) ls)
         go None e h = absurd (cc)
         go (Some i) e h = (place_some t (names_in ls) i e).2
 
-    pub begins_line : is_some place ≡ false → (e : Entry) → held e.name ≡ t → held e.columns.kinds ≡ [] → held e.columns.marks ≡ [] → Taken steps (At r) (lines ls) t (Ok (at.Columns e))
+    pub begins_line : is_some place ≡ false → (e : Entry) → held e.name ≡ t → held e.columns.kinds ≡ [] → held e.columns.marks ≡ [] → Taken steps (At (record { stage = r.stage; kinds = r.kinds; entries = r.entries; entry = e })) (lines ls) t (Ok at.Columns)
     begins_line h e n ks ms = (
       told_none (is_name t) (ltb 16 (length t) || leb 8 (length ls)) (among t (names_in ls)) name fits_in (go place looked h),
       (
-        e,
         refl,
         record {
           seen = record { kinds = rw (append-nil (kinds_in ls)) s.kinds; sources = s.sources; lines = s.lines; shaped = s.shaped };
@@ -123,9 +122,12 @@ module _ (r : Reader) (t : Token) (ls : List Line) (s : Seen r (kinds_in ls) ls)
         go (Some i) e h = absurd (cc)
 
 -- the columns stage
-module _ (r : Reader) (e : Entry) (t : Token) (ls : List Line) (n : Token) (cs : List Column) (behind : Behind r e ls n cs) where
-  pub goes_on : is 32 t ≡ true → Taken steps (At r) (columns ls n cs) t (Ok (at.Spaced e))
-  goes_on a = rw a (refl, (e, refl, behind))
+module _ (r : Reader) (t : Token) (ls : List Line) (n : Token) (cs : List Column) (behind : Behind r r.entry ls n cs) where
+  abbrev e : Entry
+  e = r.entry
+
+  pub goes_on : is 32 t ≡ true → Taken steps (At r) (columns ls n cs) t (Ok at.Spaced)
+  goes_on a = rw a (refl, (refl, behind))
 
   module _ (a : is 32 t ≡ false) (d : is 10 t ≡ true) (nonzero : length (held e.columns.marks) ≡ 0 → ⊥) (more : Bounded Entry 8) (b : Bool) (u : b ≡ ltb r.entries.used 8) (v : held more ≡ cond b (held r.entries ++ e ∷ []) (held r.entries)) where
     abbrev s : Seen r (kinds_in ls ++ kinds_of cs) ls
@@ -152,7 +154,7 @@ module _ (r : Reader) (e : Entry) (t : Token) (ls : List Line) (n : Token) (cs :
     same : entry_columns e ≡ numbered (names r.kinds) (record { name = n; columns = cs })
     same = rw (g.kinds, g.marks) refl
 
-    pub ends_line : Taken steps (At (record { stage = r.stage; kinds = r.kinds; entries = more })) (columns ls n cs) t (Ok at.Lines)
+    pub ends_line : Taken steps (At (record { stage = r.stage; kinds = r.kinds; entries = more; entry = r.entry })) (columns ls n cs) t (Ok at.Lines)
     ends_line = rw a (
       told_none (some cs && is 10 t) false false line_fits refl refl,
       (
@@ -170,15 +172,15 @@ module _ (r : Reader) (e : Entry) (t : Token) (ls : List Line) (n : Token) (cs :
     )
 
 -- the spaced stage
-module _ (r : Reader) (e : Entry) (t : Token) (ls : List Line) (n : Token) (cs : List Column) (behind : Behind r e ls n cs) (name : is_name t ≡ true) where
-  columns_count : length (held e.columns.marks) ≡ length cs
+module _ (r : Reader) (t : Token) (ls : List Line) (n : Token) (cs : List Column) (behind : Behind r r.entry ls n cs) (name : is_name t ≡ true) where
+  columns_count : length (held r.entry.columns.marks) ≡ length cs
   columns_count = ap length behind.begun.marks ∙ marks_length cs
 
-  pub fifth : 4 ≤ length (held e.columns.marks) → wrong (spaced ls n cs) t ≡ Some CatalogueLimit
+  pub fifth : 4 ≤ length (held r.entry.columns.marks) → wrong (spaced ls n cs) t ≡ Some CatalogueLimit
   fifth h = told_limit (is_name t) (leb 4 (length cs) || crowded t (known ls cs)) false name (rw (le-leb 4 (length cs) (let z = columns_count in omega arith)) refl)
 
-  pub has_kind : (more : Bounded (Bounded ℕ 16) 16) (i : ℕ) → length (held e.columns.marks) < 4 → Numbered (names r.kinds) (names more) t 16 (Some i) →
-      Taken steps (At (record { stage = r.stage; kinds = more; entries = r.entries })) (spaced ls n cs) t (Ok (at.Kinded e i))
+  pub has_kind : (more : Bounded (Bounded ℕ 16) 16) (i : ℕ) → length (held r.entry.columns.marks) < 4 → Numbered (names r.kinds) (names more) t 16 (Some i) →
+      Taken steps (At (record { stage = r.stage; kinds = more; entries = r.entries; entry = r.entry })) (spaced ls n cs) t (Ok (at.Kinded i))
   has_kind more i few q =
       let s = behind.seen in
       let g = behind.begun in
@@ -187,7 +189,6 @@ module _ (r : Reader) (e : Entry) (t : Token) (ls : List Line) (n : Token) (cs :
       let room : length cs < 4 = let z = columns_count in omega arith in (
         told_none (is_name t) (leb 4 (length cs) || crowded t (known ls cs)) false name (rw (lt-leb 4 (length cs) room) (roomy (known ls cs) t (names r.kinds) (names more) i s.kinds q)) refl,
         (
-          e,
           i,
           refl,
           record {
@@ -210,8 +211,8 @@ module _ (r : Reader) (e : Entry) (t : Token) (ls : List Line) (n : Token) (cs :
       )
 
 -- the kinded stage
-pub has_colon : (r : Reader) (e : Entry) (i : ℕ) (t : Token) (ls : List Line) (n : Token) (cs : List Column) (k : Token) → BehindKind r e i ls n cs k → is 58 t ≡ true → Taken steps (At r) (kinded ls n cs k) t (Ok (at.Coloned e i))
-has_colon r e i t ls n cs k behind c = (told_none (is 58 t) false false c refl refl, (e, i, refl, behind))
+pub has_colon : (r : Reader) (i : ℕ) (t : Token) (ls : List Line) (n : Token) (cs : List Column) (k : Token) → BehindKind r r.entry i ls n cs k → is 58 t ≡ true → Taken steps (At r) (kinded ls n cs k) t (Ok (at.Coloned i))
+has_colon r i t ls n cs k behind c = (told_none (is 58 t) false false c refl refl, (i, refl, behind))
 
 -- the coloned stage
 mark_fits : (t : Token) (m : Mark) → Some m ≡ mark_read t → ((is 98 t || is 102 t) ≡ true) × (m ≡ mark_or_free t)
@@ -222,10 +223,13 @@ mark_fits t m e = go (is 98 t) (is 102 t) e
     go false true f = (refl, cc)
     go false false f = absurd (cc)
 
-module _ (r : Reader) (e : Entry) (i : ℕ) (t : Token) (ls : List Line) (n : Token) (cs : List Column) (k : Token) (behind : BehindKind r e i ls n cs k) (mark : Mark) (read : Some mark ≡ mark_read t) where
-  pub has_mark : (mark ≡ Given → inputs_of (held e.columns.marks) < 3) → (more : rc.Columns) →
-      (length (held e.columns.kinds) < 4 → held more.kinds ≡ held e.columns.kinds ++ i ∷ []) → (length (held e.columns.marks) < 4 → held more.marks ≡ held e.columns.marks ++ mark ∷ []) →
-      Taken steps (At r) (coloned ls n cs k) t (Ok (at.Columns (record { name = e.name; columns = more })))
+module _ (r : Reader) (i : ℕ) (t : Token) (ls : List Line) (n : Token) (cs : List Column) (k : Token) (behind : BehindKind r r.entry i ls n cs k) (mark : Mark) (read : Some mark ≡ mark_read t) where
+  abbrev begun_entry : Entry
+  begun_entry = r.entry
+
+  pub has_mark : (mark ≡ Given → inputs_of (held begun_entry.columns.marks) < 3) → (more : rc.Columns) →
+      (length (held begun_entry.columns.kinds) < 4 → held more.kinds ≡ held begun_entry.columns.kinds ++ i ∷ []) → (length (held begun_entry.columns.marks) < 4 → held more.marks ≡ held begun_entry.columns.marks ++ mark ∷ []) →
+      Taken steps (At (record { stage = r.stage; kinds = r.kinds; entries = r.entries; entry = record { name = begun_entry.name; columns = more } })) (coloned ls n cs k) t (Ok at.Columns)
   has_mark few more ka ma =
       let s = behind.seen in
       let g = behind.begun in
@@ -238,7 +242,6 @@ module _ (r : Reader) (e : Entry) (i : ℕ) (t : Token) (ls : List Line) (n : To
       let marks_are : held more.marks ≡ marks_in (cs ++ c ∷ []) = marks_so ∙ ap (λ (x : List Mark). x ++ mark ∷ []) g.marks ∙ ap (λ (x : Mark). marks_in cs ++ x ∷ []) is_mark.1 ∙ sym (marks_push cs c) in (
         told_none (is 98 t || is 102 t) (is 98 t && leb 3 (inputs_of (marks_in cs))) false is_mark.0 (not_past (is 98 t) refl) refl,
         (
-          record { name = e.name; columns = more },
           refl,
           record {
             seen = record { kinds = s.kinds ∙ ap (λ (x : List Token). first_seen [] (kinds_in ls ++ x)) (sym (kinds_push cs c)); sources = s.sources; lines = s.lines; shaped = s.shaped };
@@ -264,17 +267,17 @@ module _ (r : Reader) (e : Entry) (i : ℕ) (t : Token) (ls : List Line) (n : To
 -- what the stage of a reader says of the part behind which it stands
 abbrev pub Standing : Reader → Stage → (Part → Type 0) → Type 0
 Standing r at.Lines P = (ls : List Line) → Seen r (kinds_in ls) ls → P (lines ls)
-Standing r (at.Columns e) P = (ls : List Line) (n : Token) (cs : List Column) → Behind r e ls n cs → P (columns ls n cs)
-Standing r (at.Spaced e) P = (ls : List Line) (n : Token) (cs : List Column) → Behind r e ls n cs → P (spaced ls n cs)
-Standing r (at.Kinded e i) P = (ls : List Line) (n : Token) (cs : List Column) (k : Token) → BehindKind r e i ls n cs k → P (kinded ls n cs k)
-Standing r (at.Coloned e i) P = (ls : List Line) (n : Token) (cs : List Column) (k : Token) → BehindKind r e i ls n cs k → P (coloned ls n cs k)
+Standing r at.Columns P = (ls : List Line) (n : Token) (cs : List Column) → Behind r r.entry ls n cs → P (columns ls n cs)
+Standing r at.Spaced P = (ls : List Line) (n : Token) (cs : List Column) → Behind r r.entry ls n cs → P (spaced ls n cs)
+Standing r (at.Kinded i) P = (ls : List Line) (n : Token) (cs : List Column) (k : Token) → BehindKind r r.entry i ls n cs k → P (kinded ls n cs k)
+Standing r (at.Coloned i) P = (ls : List Line) (n : Token) (cs : List Column) (k : Token) → BehindKind r r.entry i ls n cs k → P (coloned ls n cs k)
 
 at_stage : (r : Reader) (s : Stage) (P : Part → Type 0) (p : Part) → At r s p → Standing r s P → P p
 at_stage r s P (lines ls) a f = (subst (λ (x : Stage). Standing r x P) a.0 f) ls a.1
-at_stage r s P (columns ls n cs) a f = (subst (λ (x : Stage). Standing r x P) a.1 f) ls n cs a.2
-at_stage r s P (spaced ls n cs) a f = (subst (λ (x : Stage). Standing r x P) a.1 f) ls n cs a.2
-at_stage r s P (kinded ls n cs k) a f = (subst (λ (x : Stage). Standing r x P) a.2 f) ls n cs k a.3
-at_stage r s P (coloned ls n cs k) a f = (subst (λ (x : Stage). Standing r x P) a.2 f) ls n cs k a.3
+at_stage r s P (columns ls n cs) a f = (subst (λ (x : Stage). Standing r x P) a.0 f) ls n cs a.1
+at_stage r s P (spaced ls n cs) a f = (subst (λ (x : Stage). Standing r x P) a.0 f) ls n cs a.1
+at_stage r s P (kinded ls n cs k) a f = (subst (λ (x : Stage). Standing r x P) a.1 f) ls n cs k a.2
+at_stage r s P (coloned ls n cs k) a f = (subst (λ (x : Stage). Standing r x P) a.1 f) ls n cs k a.2
 
 pub by_stage : (r : Reader) (s : Stage) (P : Part → Type 0) → r.stage ≡ s → Standing r s P → (p : Part) → At r r.stage p → P p
 by_stage r s P e f p a = at_stage r r.stage P p a (subst (λ (x : Stage). Standing r x P) (sym e) f)
@@ -282,7 +285,7 @@ by_stage r s P e f p a = at_stage r r.stage P p a (subst (λ (x : Stage). Standi
 -- what is said of a reader at a stage does not depend on the stage at which it is
 module _ (r : Reader) (x : Stage) where
   abbrev moved : Reader
-  moved = record { stage = x; kinds = r.kinds; entries = r.entries }
+  moved = record { stage = x; kinds = r.kinds; entries = r.entries; entry = r.entry }
 
   seen_moved : (ks : List Token) (ls : List Line) → Seen r ks ls → Seen moved ks ls
   seen_moved _ ls s = record { kinds = s.kinds; sources = s.sources; lines = s.lines; shaped = s.shaped }
@@ -298,7 +301,7 @@ module _ (r : Reader) (x : Stage) where
 
   pub at_moved : (s : Stage) (p : Part) → At r s p → At moved s p
   at_moved s (lines ls) a = (a.0, seen_moved _ ls a.1)
-  at_moved s (columns ls n cs) a = (a.0, a.1, behind_moved a.0 ls n cs a.2)
-  at_moved s (spaced ls n cs) a = (a.0, a.1, behind_moved a.0 ls n cs a.2)
-  at_moved s (kinded ls n cs k) a = (a.0, a.1, a.2, kind_moved a.0 a.1 ls n cs k a.3)
-  at_moved s (coloned ls n cs k) a = (a.0, a.1, a.2, kind_moved a.0 a.1 ls n cs k a.3)
+  at_moved s (columns ls n cs) a = (a.0, behind_moved r.entry ls n cs a.1)
+  at_moved s (spaced ls n cs) a = (a.0, behind_moved r.entry ls n cs a.1)
+  at_moved s (kinded ls n cs k) a = (a.0, a.1, kind_moved r.entry a.0 ls n cs k a.2)
+  at_moved s (coloned ls n cs k) a = (a.0, a.1, kind_moved r.entry a.0 ls n cs k a.2)

@@ -97,10 +97,10 @@ pub record BehindKind (r : Reader) (e : Entry) (i : ℕ) (ls : List Line) (n : T
 -- the reader would stand behind the part if it were at this stage
 abbrev pub At : Reader → Stage → Part → Type 0
 At r s (lines ls) = (s ≡ at.Lines) × Seen r (kinds_in ls) ls
-At r s (columns ls n cs) = (e : Entry) × (s ≡ at.Columns e) × Behind r e ls n cs
-At r s (spaced ls n cs) = (e : Entry) × (s ≡ at.Spaced e) × Behind r e ls n cs
-At r s (kinded ls n cs k) = (e : Entry) × (i : ℕ) × (s ≡ at.Kinded e i) × BehindKind r e i ls n cs k
-At r s (coloned ls n cs k) = (e : Entry) × (i : ℕ) × (s ≡ at.Coloned e i) × BehindKind r e i ls n cs k
+At r s (columns ls n cs) = (s ≡ at.Columns) × Behind r r.entry ls n cs
+At r s (spaced ls n cs) = (s ≡ at.Spaced) × Behind r r.entry ls n cs
+At r s (kinded ls n cs k) = (i : ℕ) × (s ≡ at.Kinded i) × BehindKind r r.entry i ls n cs k
+At r s (coloned ls n cs k) = (i : ℕ) × (s ≡ at.Coloned i) × BehindKind r r.entry i ls n cs k
 
 -- the reader stands behind the part
 abbrev pub Tied : Reader → Part → Type 0

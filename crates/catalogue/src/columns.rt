@@ -26,15 +26,13 @@ impl Columns {
         }
     }
 
-    // With one column more, where there is a place for it.
-    pub(crate) fn with(self, kind: u8, mark: Mark) -> Columns
-        ensures kinds { length (held self.kinds) < 4 → held result.kinds ≡ held self.kinds ++ kind ∷ [] }
-        ensures marks { length (held self.marks) < 4 → held result.marks ≡ held self.marks ++ mark ∷ [] }
+    // Adds a column at the end, where there is a place for it.
+    pub(crate) fn push(&mut self, kind: u8, mark: Mark)
+        ensures kinds { length (held self.old.kinds) < 4 → held self.new.kinds ≡ held self.old.kinds ++ kind ∷ [] }
+        ensures marks { length (held self.old.marks) < 4 → held self.new.marks ≡ held self.old.marks ++ mark ∷ [] }
     {
-        let mut columns = self;
-        let _ = columns.kinds.push(kind);
-        let _ = columns.marks.push(mark);
-        columns
+        let _ = self.kinds.push(kind);
+        let _ = self.marks.push(mark);
     }
 }
 

@@ -38,28 +38,13 @@ fn mark_of(token: &[u8]) -> Option<Mark>
 }
 
 // A colon comes between a kind and its mark.
-fn take_colon(entry: Entry, kind: u8, token: &[u8]) -> Result<Stage, Refusal>
-    ensures taken { (r : state.Reader) (ls : Many Line) (n : Token) (cs : Many Column) (k : Token) → BehindKind r entry kind ls n cs k → Taken steps (At r) (kinded ls n cs k) token.now result }
+fn take_colon(kind: u8, token: &[u8]) -> Result<Stage, Refusal>
+    ensures taken { (r : state.Reader) (ls : Many Line) (n : Token) (cs : Many Column) (k : Token) → BehindKind r r.entry kind ls n cs k → Taken steps (At r) (kinded ls n cs k) token.now result }
 {
     if !is_byte(token, b':') {
         return Err(Refusal::CatalogueForm);
     }
-    Ok(Stage::Coloned(entry, kind))
-}
-
-// A mark ends a column.
-fn take_mark(entry: Entry, kind: u8, token: &[u8]) -> Result<Stage, Refusal>
-    ensures taken { (r : state.Reader) (ls : Many Line) (n : Token) (cs : Many Column) (k : Token) → BehindKind r entry kind ls n cs k → Taken steps (At r) (coloned ls n cs k) token.now result }
-{
-    let mark = mark_of(token).ok_or(Refusal::CatalogueForm)?;
-    let given = count_inputs(entry.columns.marks.as_slice());
-    if mark == Mark::Given && given >= GIVEN_MAX {
-        return Err(Refusal::CatalogueLimit);
-    }
-    Ok(Stage::Columns(Entry {
-        columns: entry.columns.with(kind, mark),
-        ..entry
-    }))
+    Ok(Stage::Coloned(kind))
 }
 
 impl Reader {
@@ -73,13 +58,14 @@ impl Reader {
             stage: Stage::Lines,
             kinds: Bounded::new(name),
             entries: Bounded::new(Entry { name, columns }),
+            entry: Entry { name, columns },
         }
     }
 
     // The name of a source begins a line.
     #[tactic(auto, using(crate::proofs::Taking::ninth, crate::proofs::Taking::twice, crate::proofs::Taking::was_some))]
-    fn take_source(&self, token: &[u8]) -> Result<Stage, Refusal>
-        ensures taken { (ls : Many Line) → Seen self.now (kinds_in ls) ls → Taken steps (At self.now) (lines ls) token.now result }
+    fn take_source(&mut self, token: &[u8]) -> Result<Stage, Refusal>
+        ensures taken { (ls : Many Line) → Seen self.old (kinds_in ls) ls → Taken steps (At self.new) (lines ls) token.now result }
     {
         if !is_name(token) {
             return Err(Refusal::CatalogueForm);
@@ -93,35 +79,49 @@ impl Reader {
             return Err(Refusal::SourceNamedTwice);
         }
         let columns = Columns::new();
-        Ok(Stage::Columns(Entry { name, columns }))
+        self.entry = Entry { name, columns };
+        Ok(Stage::Columns)
     }
 
     // A space comes before a column, and a newline behind the last.
-    fn take_gap(&mut self, entry: Entry, token: &[u8]) -> Result<Stage, Refusal>
-        ensures taken { (ls : Many Line) (n : Token) (cs : Many Column) → Behind self.old entry ls n cs → Taken steps (At self.new) (begun ls n cs) token.now result }
+    fn take_gap(&mut self, token: &[u8]) -> Result<Stage, Refusal>
+        ensures taken { (ls : Many Line) (n : Token) (cs : Many Column) → Behind self.old self.old.entry ls n cs → Taken steps (At self.new) (begun ls n cs) token.now result }
     {
         if is_byte(token, b' ') {
-            return Ok(Stage::Spaced(entry));
+            return Ok(Stage::Spaced);
         }
-        if entry.columns.marks.len() == 0 || !is_byte(token, b'\n') {
+        if self.entry.columns.marks.len() == 0 || !is_byte(token, b'\n') {
             return Err(Refusal::CatalogueForm);
         }
-        let _ = self.entries.push(entry);
+        let _ = self.entries.push(self.entry);
         Ok(Stage::Lines)
     }
 
     // The kind of a column; a new one gets the next number.
-    fn take_kind(&mut self, entry: Entry, token: &[u8]) -> Result<Stage, Refusal>
-        ensures taken { (ls : Many Line) (n : Token) (cs : Many Column) → Behind self.old entry ls n cs → Taken steps (At self.new) (spaced ls n cs) token.now result }
+    fn take_kind(&mut self, token: &[u8]) -> Result<Stage, Refusal>
+        ensures taken { (ls : Many Line) (n : Token) (cs : Many Column) → Behind self.old self.old.entry ls n cs → Taken steps (At self.new) (spaced ls n cs) token.now result }
     {
         if !is_name(token) {
             return Err(Refusal::CatalogueForm);
         }
-        if entry.columns.marks.len() >= COLUMNS_MAX {
+        if self.entry.columns.marks.len() >= COLUMNS_MAX {
             return Err(Refusal::CatalogueLimit);
         }
         let kind = number_in(&mut self.kinds, token, KINDS_MAX).ok_or(Refusal::CatalogueLimit)?;
-        Ok(Stage::Kinded(entry, kind))
+        Ok(Stage::Kinded(kind))
+    }
+
+    // A mark ends a column.
+    fn take_mark(&mut self, kind: u8, token: &[u8]) -> Result<Stage, Refusal>
+        ensures taken { (ls : Many Line) (n : Token) (cs : Many Column) (k : Token) → BehindKind self.old self.old.entry kind ls n cs k → Taken steps (At self.new) (coloned ls n cs k) token.now result }
+    {
+        let mark = mark_of(token).ok_or(Refusal::CatalogueForm)?;
+        let marks = self.entry.columns.marks.as_slice();
+        if mark == Mark::Given && count_inputs(marks) >= GIVEN_MAX {
+            return Err(Refusal::CatalogueLimit);
+        }
+        self.entry.columns.push(kind, mark);
+        Ok(Stage::Columns)
     }
 
     // The stage behind a token. A match, since the stages are these and no others: closures or trait
@@ -131,10 +131,10 @@ impl Reader {
     {
         match self.stage {
             Stage::Lines => self.take_source(token),
-            Stage::Columns(entry) => self.take_gap(entry, token),
-            Stage::Spaced(entry) => self.take_kind(entry, token),
-            Stage::Kinded(entry, kind) => take_colon(entry, kind, token),
-            Stage::Coloned(entry, kind) => take_mark(entry, kind, token),
+            Stage::Columns => self.take_gap(token),
+            Stage::Spaced => self.take_kind(token),
+            Stage::Kinded(kind) => take_colon(kind, token),
+            Stage::Coloned(kind) => self.take_mark(kind, token),
         }
     }
 }

@@ -3,19 +3,19 @@ use crate::columns::Entry;
 use bounded::Bounded;
 use lexing::Name;
 
-// What stands in front, and what is begun by it.
+// What stands in front.
 #[derive(Clone, Copy)]
 pub(crate) enum Stage {
     // Whole lines.
     Lines,
     // The name of a source or a column of its line.
-    Columns(Entry),
+    Columns,
     // A space behind these.
-    Spaced(Entry),
+    Spaced,
     // A kind, by its number.
-    Kinded(Entry, u8),
+    Kinded(u8),
     // A colon behind it.
-    Coloned(Entry, u8),
+    Coloned(u8),
 }
 
 #[derive(Clone, Copy)]
@@ -24,4 +24,7 @@ pub(crate) struct Reader {
     // The kinds that appeared, and what the whole lines say.
     pub(crate) kinds: Bounded<Name, 16>,
     pub(crate) entries: Bounded<Entry, 8>,
+    // The line that is begun, at every stage but the first. No stage carries it, since each token would
+    // copy it.
+    pub(crate) entry: Entry,
 }
