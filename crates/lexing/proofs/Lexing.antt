@@ -4,7 +4,7 @@ use Rattle.std.specs.List.{prefix_len}
 use native.Mathlib.Nat.{sub-zero}
 use Rattle.std.proofs.lemmas.List.Sums.{prefix_len-le-length}
 use Rattle.std.proofs.lemmas.List.Folds.{length-prefix_len}
-use Rattle.lexing.specs.Classes.{class, lettered}
+use Rattle.lexing.specs.Classes.{class, lettered, blank}
 use Rattle.lexing.specs.Names.{all}
 use Rattle.lexing.specs.Tokens.{Token, tokens, before, joins, is, Cut}
 use Rattle.std.proofs.lemmas.Bool.{and_parts, both_ways}
@@ -139,3 +139,7 @@ arrow_first [] h a b = absurd (omega arith)
 pub byte_first : (bs : List ℕ) → 0 < length bs → lettered (get_or bs 0 0) ≡ false → (get_or bs 0 0 ≡ 58 → 1 < length bs → get_or bs 1 0 ≡ 45 → ⊥) → Cut bs 0 1
 byte_first [] h l f = absurd (omega arith)
 byte_first (x ∷ bs) h l f = record { after = omega arith; within = omega arith; cut = one_byte x bs l (λ a b d. f a (omega arith) d) }
+
+pub blank_first : (bs : List ℕ) → 0 < length bs → lettered (get_or bs 0 0) ≡ false → blank (get_or bs 0 0) ≡ true → Cut bs 0 1
+unfolding class
+blank_first bs h l e = byte_first bs h l (λ a b d. both_ways _ refl (subst (λ (n : ℕ). blank n ≡ true) a e))

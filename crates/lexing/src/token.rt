@@ -15,12 +15,13 @@ fn run_length(bytes: &[u8]) -> usize
 }
 
 // How many bytes the first token has, where there is one.
-#[tactic(auto, using(crate::proofs::Lexing::run_first, crate::proofs::Lexing::arrow_first, crate::proofs::Lexing::byte_first))]
+#[tactic(auto, using(crate::proofs::Lexing::run_first, crate::proofs::Lexing::blank_first, crate::proofs::Lexing::arrow_first, crate::proofs::Lexing::byte_first))]
 fn token_length(bytes: &[u8]) -> usize
     ensures cut { 0 < length bytes.now → Cut bytes.now 0 result }
 {
     match bytes {
         [first, ..] if Alphabet::Words.has(*first) => run_length(bytes),
+        [first, ..] if Alphabet::Blanks.has(*first) => 1,
         [b':', b'-', ..] => 2,
         _ => 1,
     }
