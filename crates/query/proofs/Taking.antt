@@ -84,6 +84,19 @@ rekinded q s = record {
   fitting = s.fitting;
 }
 
+-- the same, whichever literal is begun
+with_literal : {cat : Described} {d : Draft} {vs hd : List Token} {ls : List Atom} {k : Token → Option ℕ} (l : rl.Literal) → Seen cat d vs hd ls k → Seen cat (record d { literal = l }) vs hd ls k
+with_literal l s = record {
+  catalogue = s.catalogue;
+  variables = s.variables;
+  kinds = s.kinds;
+  unused = s.unused;
+  heads = s.heads;
+  head = s.head;
+  literals = s.literals;
+  fitting = s.fitting;
+}
+
 pub constant_alone : (t : Token) → is_constant t ≡ true → is_variable t ≡ false
 constant_alone t e = go (cases_Bool (is_variable t))
   where
@@ -107,71 +120,71 @@ paired_lists d cat e = subst (λ (x : Described). length x.names ≡ length x.co
 pub unfit : (cat : Described) (p : Part) (t : Token) → fits p t ≡ false → wrong cat p t ≡ Some QueryForm
 unfit cat p t e = rw e refl
 
-module _ {cat : Described} (t : Token) where
-  pub fits_named : {p : Part} {b : Begun} → StageAt cat (at.Named b) p → fits p t ≡ is 40 t
+module _ {cat : Described} {l : rl.Literal} (t : Token) where
+  pub fits_named : {p : Part} {b : Begun} → StageAt cat l (at.Named b) p → fits p t ≡ is 40 t
   fits_named (named_head n) = refl
-  fits_named (named_literal l h ls n g) = refl
+  fits_named (named_literal h ls n g) = refl
 
-  pub fits_listed : {p : Part} {b : Begun} → StageAt cat (at.Listed b) p → fits p t ≡ (is 44 t || is 41 t)
+  pub fits_listed : {p : Part} {b : Begun} → StageAt cat l (at.Listed b) p → fits p t ≡ (is 44 t || is 41 t)
   fits_listed (listed_head n ts x) = refl
-  fits_listed (listed_literal l h ls n ts x g) = refl
+  fits_listed (listed_literal h ls n ts x g) = refl
 
-  pub fits_headed : {p : Part} → StageAt cat at.Headed p → fits p t ≡ is_arrow t
+  pub fits_headed : {p : Part} → StageAt cat l at.Headed p → fits p t ≡ is_arrow t
   fits_headed (headed a) = refl
 
-  pub fits_closed : {p : Part} → StageAt cat at.Closed p → fits p t ≡ (is 44 t || is 46 t)
+  pub fits_closed : {p : Part} → StageAt cat l at.Closed p → fits p t ≡ (is 44 t || is 46 t)
   fits_closed (closed_literal h ls a) = refl
 
   -- the name of the head
-  pub head_long : {p : Part} → StageAt cat at.Start p → is_name t ≡ true → 16 < length t → wrong cat p t ≡ Some QueryLimit
+  pub head_long : {p : Part} → StageAt cat l at.Start p → is_name t ≡ true → 16 < length t → wrong cat p t ≡ Some QueryLimit
   head_long start e h = told_13 (is_name t) false (ltb 16 (length t)) false false e refl (lt-ltb 16 (length t) h)
 
 module _ {cat : Described} {d : Draft} (t : Token) where
   pub head_name_taken : {p : Part} → Stands cat d at.Start p → is_name t ≡ true → length t ≤ 16 → (wrong cat p t ≡ None) × Stands cat d (at.Named atom.Head) (next p t)
   head_name_taken s e h = go s.stage s.read
     where
-      go : {p : Part} → StageAt cat at.Start p → ReadAt cat d p → (wrong cat p t ≡ None) × Stands cat d (at.Named atom.Head) (next p t)
+      go : {p : Part} → StageAt cat d.literal at.Start p → ReadAt cat d p → (wrong cat p t ≡ None) × Stands cat d (at.Named atom.Head) (next p t)
       go start read = (told_none (is_name t) false (ltb 16 (length t)) false false e refl (le-ltb 16 (length t) h) refl refl, record { stage = named_head t; read = read })
 
   -- punctuation
   pub open_taken : {p : Part} {b : Begun} → Stands cat d (at.Named b) p → is 40 t ≡ true → (wrong cat p t ≡ None) × Stands cat d (at.Due b) (next p t)
   open_taken s e = go s.stage s.read
     where
-      go : {p : Part} {b : Begun} → StageAt cat (at.Named b) p → ReadAt cat d p → (wrong cat p t ≡ None) × Stands cat d (at.Due b) (next p t)
+      go : {p : Part} {b : Begun} → StageAt cat d.literal (at.Named b) p → ReadAt cat d p → (wrong cat p t ≡ None) × Stands cat d (at.Due b) (next p t)
       go (named_head n) read = (rw e refl, record { stage = due_head n []; read = read })
-      go (named_literal l h ls n g) read = (rw e refl, record { stage = due_literal l h ls n [] g; read = read })
+      go (named_literal h ls n g) read = (rw e refl, record { stage = due_literal h ls n [] g; read = read })
 
   pub arrow_taken : {p : Part} → Stands cat d at.Headed p → is_arrow t ≡ true → (wrong cat p t ≡ None) × Stands cat d at.Wanted (next p t)
   arrow_taken s e = go s.stage s.read
     where
-      go : {p : Part} → StageAt cat at.Headed p → ReadAt cat d p → (wrong cat p t ≡ None) × Stands cat d at.Wanted (next p t)
+      go : {p : Part} → StageAt cat d.literal at.Headed p → ReadAt cat d p → (wrong cat p t ≡ None) × Stands cat d at.Wanted (next p t)
       go (headed a) read = (rw e refl, record { stage = wanted_literal a []; read = read })
 
   pub closed_comma : {p : Part} → Stands cat d at.Closed p → is 44 t ≡ true → (wrong cat p t ≡ None) × Stands cat d at.Wanted (next p t)
   closed_comma s e = go s.stage s.read
     where
-      go : {p : Part} → StageAt cat at.Closed p → ReadAt cat d p → (wrong cat p t ≡ None) × Stands cat d at.Wanted (next p t)
+      go : {p : Part} → StageAt cat d.literal at.Closed p → ReadAt cat d p → (wrong cat p t ≡ None) × Stands cat d at.Wanted (next p t)
       go (closed_literal h ls a) read = (rw e refl, rw e (record { stage = wanted_literal h (ls ++ a ∷ []); read = read }))
 
   pub closed_dot : {p : Part} → Stands cat d at.Closed p → is 44 t ≡ false → is 46 t ≡ true → (wrong cat p t ≡ None) × Stands cat d at.Stopped (next p t)
   closed_dot s e f = go s.stage s.read
     where
-      go : {p : Part} → StageAt cat at.Closed p → ReadAt cat d p → (wrong cat p t ≡ None) × Stands cat d at.Stopped (next p t)
+      go : {p : Part} → StageAt cat d.literal at.Closed p → ReadAt cat d p → (wrong cat p t ≡ None) × Stands cat d at.Stopped (next p t)
       go (closed_literal h ls a) read = (rw (e, f) refl, rw e (record { stage = whole (h ∷ ls) a; read = read }))
 
   pub listed_comma : {p : Part} {b : Begun} → Stands cat d (at.Listed b) p → is 44 t ≡ true → (wrong cat p t ≡ None) × Stands cat d (at.Due b) (next p t)
   listed_comma s e = go s.stage s.read
     where
-      go : {p : Part} {b : Begun} → StageAt cat (at.Listed b) p → ReadAt cat d p → (wrong cat p t ≡ None) × Stands cat d (at.Due b) (next p t)
+      go : {p : Part} {b : Begun} → StageAt cat d.literal (at.Listed b) p → ReadAt cat d p → (wrong cat p t ≡ None) × Stands cat d (at.Due b) (next p t)
       go (listed_head n ts x) read = (rw e refl, rw e (record { stage = due_head n (ts ++ x ∷ []); read = read }))
-      go (listed_literal l h ls n ts x g) read =
+      go (listed_literal h ls n ts x g) read =
           let no : is 41 t ≡ false = ap (is 41) (is_it 44 t e) in
-          (rw (e, no) refl, rw e (record { stage = due_literal l h ls n (ts ++ x ∷ []) g; read = read }))
+          (rw (e, no) refl, rw e (record { stage = due_literal h ls n (ts ++ x ∷ []) g; read = read }))
 
   pub head_closed : {p : Part} → Stands cat d (at.Listed atom.Head) p → is 41 t ≡ true → (wrong cat p t ≡ None) × Stands cat d at.Headed (next p t)
   head_closed s e = go s.stage s.read
     where
-      go : {p : Part} → StageAt cat (at.Listed atom.Head) p → ReadAt cat d p → (wrong cat p t ≡ None) × Stands cat d at.Headed (next p t)
+      go : {p : Part} → StageAt cat d.literal (at.Listed atom.Head) p → ReadAt cat d p → (wrong cat p t ≡ None) × Stands cat d at.Headed (next p t)
       go (listed_head n ts x) read =
           let no : is 44 t ≡ false = ap (is 44) (is_it 41 t e) in
           (rw (no, e) refl, rw no (record { stage = headed (atom_of n ts x); read = moved (known_closed [] (atom_of n ts x)) read }))
@@ -184,7 +197,7 @@ module _ (cat : Described) (d : Draft) (t : Token) where
   pub no_source : {p : Part} → Stands cat d at.Wanted p → is_name t ≡ true → place_of t (source_names d.catalogue) ≡ None → wrong cat p t ≡ Some UnfitLiteral
   no_source s name e = go s.stage s.read
     where
-      go : {p : Part} → StageAt cat at.Wanted p → ReadAt cat d p → wrong cat p t ≡ Some UnfitLiteral
+      go : {p : Part} → StageAt cat d.literal at.Wanted p → ReadAt cat d p → wrong cat p t ≡ Some UnfitLiteral
       go (wanted_literal h ls) read = told_12 (is_name t) (not (among t cat.names)) (leb 8 (length ls)) false false name (rw (place_none t cat.names (sym (sought read.catalogue) ∙ e)).0 refl)
 
   module _ (i : ℕ) (found : place_of t (source_names d.catalogue) ≡ Some i) (name : is_name t ≡ true) (m : ℕ) (count : m ≡ length (held d.literals)) where
@@ -197,18 +210,18 @@ module _ (cat : Described) (d : Draft) (t : Token) where
     pub ninth : {p : Part} → Stands cat d at.Wanted p → 8 ≤ m → wrong cat p t ≡ Some QueryLimit
     ninth s k = go s.stage s.read
       where
-        go : {p : Part} → StageAt cat at.Wanted p → ReadAt cat d p → wrong cat p t ≡ Some QueryLimit
+        go : {p : Part} → StageAt cat d.literal at.Wanted p → ReadAt cat d p → wrong cat p t ≡ Some QueryLimit
         go (wanted_literal h ls) read = told_13 (is_name t) (not (among t cat.names)) (leb 8 (length ls)) false false name (rw (here read.catalogue).2 refl) (le-leb 8 (length ls) (let z = many h ls read in omega arith))
 
-    pub source_taken : {p : Part} (l : rl.Literal) → Stands cat d at.Wanted p → m < 8 → l.source ≡ i → held l.terms ≡ [] → (wrong cat p t ≡ None) × Stands cat d (at.Named (atom.Literal l)) (next p t)
+    pub source_taken : {p : Part} (l : rl.Literal) → Stands cat d at.Wanted p → m < 8 → l.source ≡ i → held l.terms ≡ [] → (wrong cat p t ≡ None) × Stands cat (record d { literal = l }) (at.Named atom.Literal) (next p t)
     source_taken l s few source none = go s.stage s.read
       where
-        go : {p : Part} → StageAt cat at.Wanted p → ReadAt cat d p → (wrong cat p t ≡ None) × Stands cat d (at.Named (atom.Literal l)) (next p t)
+        go : {p : Part} → StageAt cat d.literal at.Wanted p → ReadAt cat d p → (wrong cat p t ≡ None) × Stands cat (record d { literal = l }) (at.Named atom.Literal) (next p t)
         go (wanted_literal h ls) read = (
           told_none (is_name t) (not (among t cat.names)) (leb 8 (length ls)) false false name (rw (here read.catalogue).2 refl) (lt-leb 8 (length ls) (let z = many h ls read in omega arith)) refl refl,
           record {
-            stage = named_literal l h ls t (record { room = let y = many h ls read in omega arith; there = (here read.catalogue).2; source_is = source ∙ sym (here read.catalogue).3; terms_are = ap (map plain_term) none; within = omega arith });
-            read = read;
+            stage = named_literal h ls t (record { room = let y = many h ls read in omega arith; there = (here read.catalogue).2; source_is = source ∙ sym (here read.catalogue).3; terms_are = ap (map plain_term) none; within = omega arith });
+            read = with_literal l read;
           },
         )
 
@@ -229,13 +242,13 @@ module _ (cat : Described) (d : Draft) (t : Token) (form : is_variable t ≡ tru
   pub no_head_place : {p : Part} (more : List Token) → Stands cat d (at.Due atom.Head) p → Numbered (names d.variables) more t 16 None → wrong cat p t ≡ Some QueryLimit
   no_head_place more s q = go s.stage s.read
     where
-      go : {p : Part} → StageAt cat (at.Due atom.Head) p → ReadAt cat d p → wrong cat p t ≡ Some QueryLimit
+      go : {p : Part} → StageAt cat d.literal (at.Due atom.Head) p → ReadAt cat d p → wrong cat p t ≡ Some QueryLimit
       go (due_head n ts) read = head_over n ts (or_right (leb 4 (length ts)) (crowd0 ts) (rw form (crowds (vs0 ts) t (names d.variables) more read.variables q)))
 
   pub fifth : {p : Part} → Stands cat d (at.Due atom.Head) p → 4 ≤ d.head.used → wrong cat p t ≡ Some QueryLimit
   fifth s h = go s.stage s.read
     where
-      go : {p : Part} → StageAt cat (at.Due atom.Head) p → ReadAt cat d p → wrong cat p t ≡ Some QueryLimit
+      go : {p : Part} → StageAt cat d.literal (at.Due atom.Head) p → ReadAt cat d p → wrong cat p t ≡ Some QueryLimit
       go (due_head n ts) read = head_over n ts (rw (le-leb 4 (length ts) (let z = heads_count n ts read in let y = length_held d.head in omega arith)) refl)
 
   pub fifth_held : {p : Part} → Stands cat d (at.Due atom.Head) p → 4 ≤ length (held d.head) → wrong cat p t ≡ Some QueryLimit
@@ -245,7 +258,7 @@ module _ (cat : Described) (d : Draft) (t : Token) (form : is_variable t ≡ tru
       (wrong cat p t ≡ None) × Stands cat (record d { variables = more; head = head }) (at.Listed atom.Head) (next p t)
   head_taken more i head s q few grown = go s.stage s.read
     where
-      go : {p : Part} → StageAt cat (at.Due atom.Head) p → ReadAt cat d p → (wrong cat p t ≡ None) × Stands cat (record d { variables = more; head = head }) (at.Listed atom.Head) (next p t)
+      go : {p : Part} → StageAt cat d.literal (at.Due atom.Head) p → ReadAt cat d p → (wrong cat p t ≡ None) × Stands cat (record d { variables = more; head = head }) (at.Listed atom.Head) (next p t)
       go (due_head n ts) read =
           let vs = with_name (vs0 ts) t in
           let i_is : i ≡ number_of t vs = q.1 ∙ ap (number_of t) read.variables ∙ sym (number_added t (vs0 ts)) in (
@@ -267,14 +280,14 @@ module _ (cat : Described) (d : Draft) (t : Token) (form : is_variable t ≡ tru
           )
 
 -- a term of a literal
-module _ (cat : Described) (d : Draft) (l : rl.Literal) where
+module _ (cat : Described) (d : Draft) where
   abbrev ks : List ℕ
-  ks = (columns_of d.catalogue l.source).kinds
+  ks = (columns_of d.catalogue d.literal.source).kinds
 
   abbrev place : ℕ
-  place = length (held l.terms)
+  place = length (held d.literal.terms)
 
-  module _ (h : Atom) (ls : List Atom) (n : Token) (ts : List Token) (read : Behind cat d (h ∷ ls) n ts) (g : Begins cat l.source (held l.terms) (known (h ∷ ls) ts) (length ls) n ts) where
+  module _ (h : Atom) (ls : List Atom) (n : Token) (ts : List Token) (read : Behind cat d (h ∷ ls) n ts) (g : Begins cat d.literal.source (held d.literal.terms) (known (h ∷ ls) ts) (length ls) n ts) where
     abbrev us : List Atom
     us = h ∷ ls
 
@@ -282,10 +295,10 @@ module _ (cat : Described) (d : Draft) (l : rl.Literal) where
     vs1 = known us ts
 
     there : ks ≡ kinds_at cat n
-    there = ap (λ (x : Described). (get_or x.columns l.source no_columns).kinds) read.catalogue ∙ ap (λ (i : ℕ). (get_or cat.columns i no_columns).kinds) g.source_is
+    there = ap (λ (x : Described). (get_or x.columns d.literal.source no_columns).kinds) read.catalogue ∙ ap (λ (i : ℕ). (get_or cat.columns i no_columns).kinds) g.source_is
 
     terms_count : place ≡ length ts
-    terms_count = sym (length-map (held l.terms) plain_term) ∙ ap length g.terms_are ∙ length-map ts (term_of vs1)
+    terms_count = sym (length-map (held d.literal.terms) plain_term) ∙ ap length g.terms_are ∙ length-map ts (term_of vs1)
 
     filled : length ks ≤ place → leb (length (kinds_at cat n)) (length ts) ≡ true
     filled k = le-leb (length (kinds_at cat n)) (length ts) (let z = terms_count in let y = ap length there in omega arith)
@@ -348,7 +361,7 @@ module _ (cat : Described) (d : Draft) (l : rl.Literal) where
           second_kind e = told_14 (is_variable t || is_constant t) full crowd mix big (variable_fits t form) (free k) place_free (mix_is true e)
 
           has_variable : (kinds : Kinds) → true ≡ not (other_kind (get_or d.kinds.cells i None) kind) → kinds.cells ≡ noted d.kinds.cells i kind (get_or d.kinds.cells i None) →
-              (wrong cat (due us n ts) t ≡ None) × TermTaken cat (record d { variables = more; kinds = kinds }) l (Variable i) (listed us n ts t)
+              (wrong cat (due us n ts) t ≡ None) × TermTaken cat (record d { variables = more; kinds = kinds }) d.literal (Variable i) (listed us n ts t)
           has_variable kinds agrees cells_are =
               let vs = with_name vs1 t in
               let all = all_known us ts in
@@ -376,7 +389,7 @@ module _ (cat : Described) (d : Draft) (l : rl.Literal) where
                       there = g.there;
                       source_is = g.source_is;
                       within = within_one t k;
-                      terms_are = map_push plain_term (held l.terms) (Variable i) ∙ ap (λ (x : List Term). x ++ variable i ∷ []) (g.terms_are ∙ sym (terms_kept vs1 t ts all.1))
+                      terms_are = map_push plain_term (held d.literal.terms) (Variable i) ∙ ap (λ (x : List Term). x ++ variable i ∷ []) (g.terms_are ∙ sym (terms_kept vs1 t ts all.1))
                           ∙ ap (λ (x : Term). map (term_of vs) ts ++ x ∷ []) last ∙ sym (map_push (term_of vs) ts t);
                     })),
               )
@@ -388,7 +401,7 @@ module _ (cat : Described) (d : Draft) (l : rl.Literal) where
         over_largest : 4294967295 < value t → wrong cat (due us n ts) t ≡ Some ConstantTooLarge
         over_largest w = told_16 (is_variable t || is_constant t) full crowd mix big (constant_fits t form) (free k) (rw other refl) (rw other refl) (rw form (lt-ltb 4294967295 (value t) w))
 
-        has_constant : (x : ℕ) → x ≡ value t → x ≤ 4294967295 → (wrong cat (due us n ts) t ≡ None) × TermTaken cat d l (Constant x) (listed us n ts t)
+        has_constant : (x : ℕ) → x ≡ value t → x ≤ 4294967295 → (wrong cat (due us n ts) t ≡ None) × TermTaken cat d d.literal (Constant x) (listed us n ts t)
         has_constant x e small =
             let last : constant x ≡ term_of vs1 t = ap constant e ∙ sym (rw other refl) in (
               told_none (is_variable t || is_constant t) full crowd mix big (constant_fits t form) (free k) (rw other refl) (rw other refl) (rw form (le-ltb 4294967295 (value t) (omega arith))),
@@ -399,20 +412,20 @@ module _ (cat : Described) (d : Draft) (l : rl.Literal) where
                     there = g.there;
                     source_is = g.source_is;
                     within = within_one t k;
-                    terms_are = map_push plain_term (held l.terms) (Constant x) ∙ ap (λ (y : List Term). y ++ constant x ∷ []) g.terms_are
+                    terms_are = map_push plain_term (held d.literal.terms) (Constant x) ∙ ap (λ (y : List Term). y ++ constant x ∷ []) g.terms_are
                         ∙ ap (λ (y : Term). map (term_of vs1) ts ++ y ∷ []) last ∙ sym (map_push (term_of vs1) ts t);
                   })),
             )
 
   -- whatever part a literal's term is due behind
-  at_term : (P : Part → Type 0) → ((h : Atom) (ls : List Atom) (n : Token) (ts : List Token) → Behind cat d (h ∷ ls) n ts → Begins cat l.source (held l.terms) (known (h ∷ ls) ts) (length ls) n ts → P (due (h ∷ ls) n ts)) →
-      {p : Part} → Stands cat d (at.Due (atom.Literal l)) p → P p
+  at_term : (P : Part → Type 0) → ((h : Atom) (ls : List Atom) (n : Token) (ts : List Token) → Behind cat d (h ∷ ls) n ts → Begins cat d.literal.source (held d.literal.terms) (known (h ∷ ls) ts) (length ls) n ts → P (due (h ∷ ls) n ts)) →
+      {p : Part} → Stands cat d (at.Due atom.Literal) p → P p
   at_term P f s = go s.stage s.read
     where
-      go : {p : Part} → StageAt cat (at.Due (atom.Literal l)) p → ReadAt cat d p → P p
-      go (due_literal l h ls n ts g) read = f h ls n ts read g
+      go : {p : Part} → StageAt cat d.literal (at.Due atom.Literal) p → ReadAt cat d p → P p
+      go (due_literal h ls n ts g) read = f h ls n ts read g
 
-  module _ (t : Token) {p : Part} (s : Stands cat d (at.Due (atom.Literal l)) p) where
+  module _ (t : Token) {p : Part} (s : Stands cat d (at.Due atom.Literal) p) where
     pub term_too_many : (is_variable t || is_constant t) ≡ true → length ks ≤ place → wrong cat p t ≡ Some UnfitLiteral
     term_too_many e k = at_term (λ q. wrong cat q t ≡ Some UnfitLiteral) (λ h ls n ts read g. too_many h ls n ts read g t e k) s
 
@@ -424,64 +437,64 @@ module _ (cat : Described) (d : Draft) (l : rl.Literal) where
       in_two_kinds e = at_term (λ x. wrong cat x t ≡ Some VariableInTwoKinds) (λ h ls n ts read g. second_kind h ls n ts read g t form due.0 more i q kind due.1 e) s
 
       pub variable_taken : (kinds : Kinds) → true ≡ not (other_kind (get_or d.kinds.cells i None) kind) → kinds.cells ≡ noted d.kinds.cells i kind (get_or d.kinds.cells i None) →
-          (wrong cat p t ≡ None) × TermTaken cat (record d { variables = more; kinds = kinds }) l (Variable i) (next p t)
-      variable_taken kinds agrees cells = at_term (λ x. (wrong cat x t ≡ None) × TermTaken cat (record d { variables = more; kinds = kinds }) l (Variable i) (next x t)) (λ h ls n ts read g. has_variable h ls n ts read g t form due.0 more i q kind due.1 kinds agrees cells) s
+          (wrong cat p t ≡ None) × TermTaken cat (record d { variables = more; kinds = kinds }) d.literal (Variable i) (next p t)
+      variable_taken kinds agrees cells = at_term (λ x. (wrong cat x t ≡ None) × TermTaken cat (record d { variables = more; kinds = kinds }) d.literal (Variable i) (next x t)) (λ h ls n ts read g. has_variable h ls n ts read g t form due.0 more i q kind due.1 kinds agrees cells) s
 
     module _ (form : is_constant t ≡ true) (k : place < length ks) where
       pub too_large : 4294967295 < value t → wrong cat p t ≡ Some ConstantTooLarge
       too_large w = at_term (λ x. wrong cat x t ≡ Some ConstantTooLarge) (λ h ls n ts read g. over_largest h ls n ts read g t form k w) s
 
-      pub constant_taken : (x : ℕ) → x ≡ value t → x ≤ 4294967295 → (wrong cat p t ≡ None) × TermTaken cat d l (Constant x) (next p t)
-      constant_taken x e small = at_term (λ y. (wrong cat y t ≡ None) × TermTaken cat d l (Constant x) (next y t)) (λ h ls n ts read g. has_constant h ls n ts read g t form k x e small) s
+      pub constant_taken : (x : ℕ) → x ≡ value t → x ≤ 4294967295 → (wrong cat p t ≡ None) × TermTaken cat d d.literal (Constant x) (next p t)
+      constant_taken x e small = at_term (λ y. (wrong cat y t ≡ None) × TermTaken cat d d.literal (Constant x) (next y t)) (λ h ls n ts read g. has_constant h ls n ts read g t form k x e small) s
 
 -- a literal with the term that is taken
-pub with_term : {cat : Described} {d : Draft} {l : rl.Literal} {term : rt.Term} {p : Part} (terms : Bounded rt.Term 4) (b : Bool) → b ≡ ltb l.terms.used 4 → held terms ≡ cond b (held l.terms ++ term ∷ []) (held l.terms) →
-    TermTaken cat d l term p → Stands cat d (at.Listed (atom.Literal (record l { terms = terms }))) p
-with_term {cat} {d} {l} {term} terms b u v (term_taken h ls n ts t read g) =
+pub with_term : {cat : Described} {d : Draft} {term : rt.Term} {p : Part} (terms : Bounded rt.Term 4) (b : Bool) → b ≡ ltb d.literal.terms.used 4 → held terms ≡ cond b (held d.literal.terms ++ term ∷ []) (held d.literal.terms) →
+    TermTaken cat d d.literal term p → Stands cat (record d { literal = record d.literal { terms = terms } }) (at.Listed atom.Literal) p
+with_term {cat} {d} {term} terms b u v (term_taken h ls n ts t read g) =
     let few = few_kinds d cat n read.catalogue in
-    let count : length (held l.terms ++ term ∷ []) ≡ length (ts ++ t ∷ []) = sym (length-map (held l.terms ++ term ∷ []) plain_term) ∙ ap length g.terms_are ∙ length-map (ts ++ t ∷ []) (term_of (known (h ∷ ls) (ts ++ t ∷ []))) in
-    let room : length (held l.terms) < 4 = let z = g.within in let y = length_push (held l.terms) term in omega arith in
-    let grown = pushed l.terms terms term b u v room in
+    let count : length (held d.literal.terms ++ term ∷ []) ≡ length (ts ++ t ∷ []) = sym (length-map (held d.literal.terms ++ term ∷ []) plain_term) ∙ ap length g.terms_are ∙ length-map (ts ++ t ∷ []) (term_of (known (h ∷ ls) (ts ++ t ∷ []))) in
+    let room : length (held d.literal.terms) < 4 = let z = g.within in let y = length_push (held d.literal.terms) term in omega arith in
+    let grown = pushed d.literal.terms terms term b u v room in
     record {
-      stage = listed_literal (record l { terms = terms }) h ls n ts t (subst (λ (x : List rt.Term). Begins cat l.source x (known (h ∷ ls) (ts ++ t ∷ [])) (length ls) n (ts ++ t ∷ [])) (sym grown) g);
-      read = read;
+      stage = listed_literal h ls n ts t (subst (λ (x : List rt.Term). Begins cat d.literal.source x (known (h ∷ ls) (ts ++ t ∷ [])) (length ls) n (ts ++ t ∷ [])) (sym grown) g);
+      read = with_literal (record d.literal { terms = terms }) read;
     }
 
 -- the end of a literal
-module _ (cat : Described) (d : Draft) (l : rl.Literal) (t : Token) (form : is 41 t ≡ true) where
+module _ (cat : Described) (d : Draft) (t : Token) (form : is 41 t ≡ true) where
   no_comma : is 44 t ≡ false
   no_comma = ap (is 44) (is_it 41 t form)
 
-  module _ (h : Atom) (ls : List Atom) (n : Token) (ts : List Token) (x : Token) (read : Behind cat d (h ∷ ls) n (ts ++ x ∷ [])) (g : Begins cat l.source (held l.terms) (known (h ∷ ls) (ts ++ x ∷ [])) (length ls) n (ts ++ x ∷ [])) where
+  module _ (h : Atom) (ls : List Atom) (n : Token) (ts : List Token) (x : Token) (read : Behind cat d (h ∷ ls) n (ts ++ x ∷ [])) (g : Begins cat d.literal.source (held d.literal.terms) (known (h ∷ ls) (ts ++ x ∷ [])) (length ls) n (ts ++ x ∷ [])) where
     abbrev all_items : List Token
     all_items = ts ++ x ∷ []
 
     abbrev vs2 : List Token
     vs2 = known (h ∷ ls) all_items
 
-    there_2 : (columns_of d.catalogue l.source).kinds ≡ kinds_at cat n
-    there_2 = there cat d l h ls n all_items read g
+    there_2 : (columns_of d.catalogue d.literal.source).kinds ≡ kinds_at cat n
+    there_2 = there cat d h ls n all_items read g
 
-    terms_count_2 : length (held l.terms) ≡ length all_items
-    terms_count_2 = terms_count cat d l h ls n all_items read g
+    terms_count_2 : length (held d.literal.terms) ≡ length all_items
+    terms_count_2 = terms_count cat d h ls n all_items read g
 
     fits_end : (is 44 t || is 41 t) ≡ true
     fits_end = or_right (is 44 t) (is 41 t) form
 
-    too_early : length (held l.terms) < length (columns_of d.catalogue l.source).kinds → wrong cat (listed (h ∷ ls) n ts x) t ≡ Some UnfitLiteral
+    too_early : length (held d.literal.terms) < length (columns_of d.catalogue d.literal.source).kinds → wrong cat (listed (h ∷ ls) n ts x) t ≡ Some UnfitLiteral
     too_early k = told_12 (is 44 t || is 41 t) (is 41 t && ltb (length all_items) (length (kinds_at cat n))) false false false fits_end
         (rw form (lt-ltb (length all_items) (length (kinds_at cat n)) (let z = terms_count_2 in let y = ap length there_2 in omega arith)))
 
-    ends_literal : (more : Bounded rl.Literal 8) (b : Bool) → length (columns_of d.catalogue l.source).kinds ≤ length (held l.terms) → b ≡ ltb d.literals.used 8 → held more ≡ cond b (held d.literals ++ l ∷ []) (held d.literals) →
+    ends_literal : (more : Bounded rl.Literal 8) (b : Bool) → length (columns_of d.catalogue d.literal.source).kinds ≤ length (held d.literal.terms) → b ≡ ltb d.literals.used 8 → held more ≡ cond b (held d.literals ++ d.literal ∷ []) (held d.literals) →
         (wrong cat (listed (h ∷ ls) n ts x) t ≡ None) × Stands cat (record d { literals = more }) at.Closed (next (listed (h ∷ ls) n ts x) t)
     ends_literal more b k u v =
         let a = atom_of n ts x in
         let enough : length all_items ≡ length (kinds_at cat n) = let z = terms_count_2 in let y = ap length there_2 in let w = g.within in omega arith in
         let all = all_known (h ∷ ls) all_items in
-        let same : plain_literal l ≡ literal_of cat vs2 a = literal_is l.source (number_of n cat.names) (map plain_term (held l.terms)) (map (term_of vs2) all_items) g.source_is g.terms_are in
-        let fit : fitting cat.columns (length vs2) (plain_literal l) ≡ true = ap (fitting cat.columns (length vs2)) same ∙ literal_fits cat vs2 a (paired_lists d cat read.catalogue) g.there enough all.1 in
-        let grown = pushed d.literals more l b u v (let z = literals_count cat d vs2 (items h) ls (λ y. kind_of cat y ls n all_items) read in let y = g.room in omega arith) in
-        let lists : map plain_literal (held more) ≡ map plain_literal (held d.literals) ++ plain_literal l ∷ [] = ap (map plain_literal) grown ∙ map_push plain_literal (held d.literals) l in (
+        let same : plain_literal d.literal ≡ literal_of cat vs2 a = literal_is d.literal.source (number_of n cat.names) (map plain_term (held d.literal.terms)) (map (term_of vs2) all_items) g.source_is g.terms_are in
+        let fit : fitting cat.columns (length vs2) (plain_literal d.literal) ≡ true = ap (fitting cat.columns (length vs2)) same ∙ literal_fits cat vs2 a (paired_lists d cat read.catalogue) g.there enough all.1 in
+        let grown = pushed d.literals more d.literal b u v (let z = literals_count cat d vs2 (items h) ls (λ y. kind_of cat y ls n all_items) read in let y = g.room in omega arith) in
+        let lists : map plain_literal (held more) ≡ map plain_literal (held d.literals) ++ plain_literal d.literal ∷ [] = ap (map plain_literal) grown ∙ map_push plain_literal (held d.literals) d.literal in (
           told_none (is 44 t || is 41 t) (is 41 t && ltb (length all_items) (length (kinds_at cat n))) false false false fits_end
               (rw form (le-ltb (length all_items) (length (kinds_at cat n)) (omega arith))) refl refl refl,
           rw no_comma (record {
@@ -493,8 +506,8 @@ module _ (cat : Described) (d : Draft) (l : rl.Literal) (t : Token) (form : is 4
               unused = read.unused;
               heads = read.heads;
               head = read.head;
-              literals = lists ∙ ap (λ (w : List Literal). w ++ plain_literal l ∷ []) read.literals ∙ ap (λ (w : Literal). map (literal_of cat vs2) ls ++ w ∷ []) same ∙ sym (map_push (literal_of cat vs2) ls a);
-              fitting = subst (λ (w : List Literal). all_fitting cat.columns (length vs2) w ≡ true) (sym lists) (all_fitting_push cat.columns (length vs2) (map plain_literal (held d.literals)) (plain_literal l) read.fitting fit);
+              literals = lists ∙ ap (λ (w : List Literal). w ++ plain_literal d.literal ∷ []) read.literals ∙ ap (λ (w : Literal). map (literal_of cat vs2) ls ++ w ∷ []) same ∙ sym (map_push (literal_of cat vs2) ls a);
+              fitting = subst (λ (w : List Literal). all_fitting cat.columns (length vs2) w ≡ true) (sym lists) (all_fitting_push cat.columns (length vs2) (map plain_literal (held d.literals)) (plain_literal d.literal) read.fitting fit);
             }));
           }),
         )
@@ -502,15 +515,15 @@ module _ (cat : Described) (d : Draft) (l : rl.Literal) (t : Token) (form : is 4
         literal_is : (i j : ℕ) (y z : List Term) → i ≡ j → y ≡ z → ◌≡◌ {A = Literal} (record { source = i; terms = y }) (record { source = j; terms = z })
         literal_is i j y z e f = rw (e, f) refl
 
-  pub closed_early : {p : Part} → Stands cat d (at.Listed (atom.Literal l)) p → length (held l.terms) < length (columns_of d.catalogue l.source).kinds → wrong cat p t ≡ Some UnfitLiteral
+  pub closed_early : {p : Part} → Stands cat d (at.Listed atom.Literal) p → length (held d.literal.terms) < length (columns_of d.catalogue d.literal.source).kinds → wrong cat p t ≡ Some UnfitLiteral
   closed_early s k = go s.stage s.read
     where
-      go : {p : Part} → StageAt cat (at.Listed (atom.Literal l)) p → ReadAt cat d p → wrong cat p t ≡ Some UnfitLiteral
-      go (listed_literal l h ls n ts x g) read = too_early h ls n ts x read g k
+      go : {p : Part} → StageAt cat d.literal (at.Listed atom.Literal) p → ReadAt cat d p → wrong cat p t ≡ Some UnfitLiteral
+      go (listed_literal h ls n ts x g) read = too_early h ls n ts x read g k
 
-  pub literal_closed : {p : Part} (more : Bounded rl.Literal 8) (b : Bool) → Stands cat d (at.Listed (atom.Literal l)) p → length (columns_of d.catalogue l.source).kinds ≤ length (held l.terms) → b ≡ ltb d.literals.used 8 → held more ≡ cond b (held d.literals ++ l ∷ []) (held d.literals) →
+  pub literal_closed : {p : Part} (more : Bounded rl.Literal 8) (b : Bool) → Stands cat d (at.Listed atom.Literal) p → length (columns_of d.catalogue d.literal.source).kinds ≤ length (held d.literal.terms) → b ≡ ltb d.literals.used 8 → held more ≡ cond b (held d.literals ++ d.literal ∷ []) (held d.literals) →
       (wrong cat p t ≡ None) × Stands cat (record d { literals = more }) at.Closed (next p t)
   literal_closed more b s k u v = go s.stage s.read
     where
-      go : {p : Part} → StageAt cat (at.Listed (atom.Literal l)) p → ReadAt cat d p → (wrong cat p t ≡ None) × Stands cat (record d { literals = more }) at.Closed (next p t)
-      go (listed_literal l h ls n ts x g) read = ends_literal h ls n ts x read g more b k u v
+      go : {p : Part} → StageAt cat d.literal (at.Listed atom.Literal) p → ReadAt cat d p → (wrong cat p t ≡ None) × Stands cat (record d { literals = more }) at.Closed (next p t)
+      go (listed_literal h ls n ts x g) read = ends_literal h ls n ts x read g more b k u v

@@ -145,20 +145,20 @@ pub record Begins (cat : Described) (source : ℕ) (terms : List record_term.Ter
 abbrev pub BeginsLiteral : Described → record_literal.Literal → Atom → List Atom → Token → List Token → Type 0
 BeginsLiteral cat l h ls n ts = Begins cat l.source (held l.terms) (known (h ∷ ls) ts) (length ls) n ts
 
--- the stage behind a part: the head is the first atom, and a literal is begun behind it
-pub data StageAt (cat : Described) : Stage → Part → Type 0 where
-  start : StageAt cat at.Start (wanted [])
-  wanted_literal : (h : Atom) (ls : List Atom) → StageAt cat at.Wanted (wanted (h ∷ ls))
-  named_head : (n : Token) → StageAt cat (at.Named atom.Head) (named [] n)
-  named_literal : (l : record_literal.Literal) (h : Atom) (ls : List Atom) (n : Token) → BeginsLiteral cat l h ls n [] → StageAt cat (at.Named (atom.Literal l)) (named (h ∷ ls) n)
-  due_head : (n : Token) (ts : List Token) → StageAt cat (at.Due atom.Head) (due [] n ts)
-  due_literal : (l : record_literal.Literal) (h : Atom) (ls : List Atom) (n : Token) (ts : List Token) → BeginsLiteral cat l h ls n ts → StageAt cat (at.Due (atom.Literal l)) (due (h ∷ ls) n ts)
-  listed_head : (n : Token) (ts : List Token) (t : Token) → StageAt cat (at.Listed atom.Head) (listed [] n ts t)
-  listed_literal : (l : record_literal.Literal) (h : Atom) (ls : List Atom) (n : Token) (ts : List Token) (t : Token) → BeginsLiteral cat l h ls n (ts ++ t ∷ []) →
-      StageAt cat (at.Listed (atom.Literal l)) (listed (h ∷ ls) n ts t)
-  headed : (a : Atom) → StageAt cat at.Headed (closed [] a)
-  closed_literal : (h : Atom) (ls : List Atom) (a : Atom) → StageAt cat at.Closed (closed (h ∷ ls) a)
-  whole : (us : List Atom) (a : Atom) → StageAt cat at.Stopped (stopped us a)
+-- the stage behind a part: the head is the first atom, and this literal is begun behind it
+pub data StageAt (cat : Described) (l : record_literal.Literal) : Stage → Part → Type 0 where
+  start : StageAt cat l at.Start (wanted [])
+  wanted_literal : (h : Atom) (ls : List Atom) → StageAt cat l at.Wanted (wanted (h ∷ ls))
+  named_head : (n : Token) → StageAt cat l (at.Named atom.Head) (named [] n)
+  named_literal : (h : Atom) (ls : List Atom) (n : Token) → BeginsLiteral cat l h ls n [] → StageAt cat l (at.Named atom.Literal) (named (h ∷ ls) n)
+  due_head : (n : Token) (ts : List Token) → StageAt cat l (at.Due atom.Head) (due [] n ts)
+  due_literal : (h : Atom) (ls : List Atom) (n : Token) (ts : List Token) → BeginsLiteral cat l h ls n ts → StageAt cat l (at.Due atom.Literal) (due (h ∷ ls) n ts)
+  listed_head : (n : Token) (ts : List Token) (t : Token) → StageAt cat l (at.Listed atom.Head) (listed [] n ts t)
+  listed_literal : (h : Atom) (ls : List Atom) (n : Token) (ts : List Token) (t : Token) → BeginsLiteral cat l h ls n (ts ++ t ∷ []) →
+      StageAt cat l (at.Listed atom.Literal) (listed (h ∷ ls) n ts t)
+  headed : (a : Atom) → StageAt cat l at.Headed (closed [] a)
+  closed_literal : (h : Atom) (ls : List Atom) (a : Atom) → StageAt cat l at.Closed (closed (h ∷ ls) a)
+  whole : (us : List Atom) (a : Atom) → StageAt cat l at.Stopped (stopped us a)
 
 -- what is read behind a part
 abbrev pub ReadAt : Described → Draft → Part → Type 0
@@ -171,7 +171,7 @@ ReadAt cat d (stopped us a) = Behind cat d (us ++ a ∷ []) [] []
 
 -- a draft and a stage stand behind the part
 pub record Stands (cat : Described) (d : Draft) (s : Stage) (p : Part) : Type 0 where
-  pub stage : StageAt cat s p
+  pub stage : StageAt cat d.literal s p
   pub read : ReadAt cat d p
 
 -- the reader stands behind the part

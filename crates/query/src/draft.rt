@@ -23,8 +23,8 @@ use faults::Refusal;
 use lexing::{NAME_MAX, Name, is_byte, is_name, number_in};
 
 // The variables that are read, with the kinds in which they stand, those of the head, and the
-// literals. A query has the same fields but the kinds, and is no part of a draft: what its ghost field
-// says of them holds only when the text has ended.
+// literals; and the literal that is begun. A query has the same fields but the kinds and the last, and is
+// no part of a draft: what its ghost field says of them holds only when the text has ended.
 #[derive(Clone, Copy)]
 pub(crate) struct Draft {
     pub(crate) catalogue: Catalogue,
@@ -32,6 +32,9 @@ pub(crate) struct Draft {
     pub(crate) kinds: Kinds,
     pub(crate) head: Bounded<u8, HEAD_MAX>,
     pub(crate) literals: Bounded<Literal, LITERAL_MAX>,
+    // With its terms so far, where the stage is that of a literal. No stage carries it, since each token
+    // would copy it.
+    pub(crate) literal: Literal,
 }
 
 // The name of the head.
@@ -98,12 +101,13 @@ impl Draft {
             kinds: Kinds::new(),
             head: Bounded::new(0),
             literals: Bounded::new(Literal::new(0)),
+            literal: Literal::new(0),
         }
     }
 
     // The name of a literal's source.
-    fn take_source(&self, token: &[u8]) -> Result<Stage, Refusal>
-        ensures taken { (cat : Described) (p : Part) → Stands cat self.now at.Wanted p → Taken (steps cat) (Stands cat self.now) p token.now result }
+    fn take_source(&mut self, token: &[u8]) -> Result<Stage, Refusal>
+        ensures taken { (cat : Described) (p : Part) → Stands cat self.old at.Wanted p → Taken (steps cat) (Stands cat self.new) p token.now result }
     {
         if !is_name(token) {
             return Err(Refusal::QueryForm);
@@ -116,7 +120,8 @@ impl Draft {
             return Err(Refusal::QueryLimit);
         }
         let source = source as u8; // below 8: `try_from` would add a refusal that never comes
-        Ok(Stage::Named(Begun::Literal(Literal::new(source))))
+        self.literal = Literal::new(source);
+        Ok(Stage::Named(Begun::Literal))
     }
 
     // A variable of the head.
@@ -134,25 +139,25 @@ impl Draft {
         Ok(Stage::Listed(Begun::Head))
     }
 
-    // The kind of the column in which a literal's next term stands.
-    fn kind_due(&self, literal: &Literal) -> Result<u8, Refusal>
-        ensures due { let kinds = (columns_of self.now.catalogue literal.now.source).kinds in
-            let place = length (held literal.now.terms) in
+    // The kind of the column in which the literal's next term stands.
+    fn kind_due(&self) -> Result<u8, Refusal>
+        ensures due { let kinds = (columns_of self.now.catalogue self.now.literal.source).kinds in
+            let place = length (held self.now.literal.terms) in
             MatchResult result (λ kind. (place < length kinds) × (kind ≡ slice_index kinds place)) (λ refusal. (length kinds ≤ place) × (refusal ≡ UnfitLiteral)) }
     {
-        let kinds = self.catalogue.kinds(usize::from(literal.source));
+        let kinds = self.catalogue.kinds(usize::from(self.literal.source));
         kinds
-            .get(literal.terms.len())
+            .get(self.literal.terms.len())
             .copied()
             .ok_or(Refusal::UnfitLiteral)
     }
 
     // A variable as a term of a literal; it takes the kind of its column.
-    fn take_variable(&mut self, literal: &Literal, token: &[u8]) -> Result<Term, Refusal>
+    fn take_variable(&mut self, token: &[u8]) -> Result<Term, Refusal>
         requires form { is_variable token.now ≡ true }
-        ensures taken { (cat : Described) (p : Part) → Stands cat self.old (at.Due (atom.Literal literal.now)) p → Taken (steps cat) (TermTaken cat self.new literal.now) p token.now result }
+        ensures taken { (cat : Described) (p : Part) → Stands cat self.old (at.Due atom.Literal) p → Taken (steps cat) (TermTaken cat self.new self.new.literal) p token.now result }
     {
-        let kind = self.kind_due(literal)?;
+        let kind = self.kind_due()?;
         let number = number_of(&mut self.variables, token)?;
         if !self.kinds.note(number, kind) {
             return Err(Refusal::VariableInTwoKinds);
@@ -161,24 +166,24 @@ impl Draft {
     }
 
     // A constant as a term of a literal.
-    fn take_constant(&self, literal: &Literal, token: &[u8]) -> Result<Term, Refusal>
+    fn take_constant(&self, token: &[u8]) -> Result<Term, Refusal>
         requires form { is_constant token.now ≡ true }
-        ensures taken { (cat : Described) (p : Part) → Stands cat self.now (at.Due (atom.Literal literal.now)) p → Taken (steps cat) (TermTaken cat self.now literal.now) p token.now result }
+        ensures taken { (cat : Described) (p : Part) → Stands cat self.now (at.Due atom.Literal) p → Taken (steps cat) (TermTaken cat self.now self.now.literal) p token.now result }
     {
-        self.kind_due(literal)?;
+        self.kind_due()?;
         let value = constant_of(token).ok_or(Refusal::ConstantTooLarge)?;
         Ok(Term::Constant(value))
     }
 
     // A variable or a constant as a term of a literal.
-    fn take_term(&mut self, literal: &Literal, token: &[u8]) -> Result<Term, Refusal>
-        ensures taken { (cat : Described) (p : Part) → Stands cat self.old (at.Due (atom.Literal literal.now)) p → Taken (steps cat) (TermTaken cat self.new literal.now) p token.now result }
+    fn take_term(&mut self, token: &[u8]) -> Result<Term, Refusal>
+        ensures taken { (cat : Described) (p : Part) → Stands cat self.old (at.Due atom.Literal) p → Taken (steps cat) (TermTaken cat self.new self.new.literal) p token.now result }
     {
         if is_variable(token) {
-            return self.take_variable(literal, token);
+            return self.take_variable(token);
         }
         if is_constant(token) {
-            return self.take_constant(literal, token);
+            return self.take_constant(token);
         }
         Err(Refusal::QueryForm)
     }
@@ -189,23 +194,23 @@ impl Draft {
     {
         match begun {
             Begun::Head => self.take_head_variable(token),
-            Begun::Literal(mut literal) => {
-                let term = self.take_term(&literal, token)?;
-                let _ = literal.terms.push(term);
-                Ok(Stage::Listed(Begun::Literal(literal)))
+            Begun::Literal => {
+                let term = self.take_term(token)?;
+                let _ = self.literal.terms.push(term);
+                Ok(Stage::Listed(Begun::Literal))
             }
         }
     }
 
     // The parenthesis that ends a literal; it has a term for each column then.
-    fn take_end(&mut self, literal: Literal) -> Result<Stage, Refusal>
-        ensures taken { (cat : Described) (p : Part) (t : Token) → is 41 t ≡ true → Stands cat self.old (at.Listed (atom.Literal literal)) p → Taken (steps cat) (Stands cat self.new) p t result }
+    fn take_end(&mut self) -> Result<Stage, Refusal>
+        ensures taken { (cat : Described) (p : Part) (t : Token) → is 41 t ≡ true → Stands cat self.old (at.Listed atom.Literal) p → Taken (steps cat) (Stands cat self.new) p t result }
     {
-        let kinds = self.catalogue.kinds(usize::from(literal.source));
-        if literal.terms.len() < kinds.len() {
+        let kinds = self.catalogue.kinds(usize::from(self.literal.source));
+        if self.literal.terms.len() < kinds.len() {
             return Err(Refusal::UnfitLiteral);
         }
-        let _ = self.literals.push(literal);
+        let _ = self.literals.push(self.literal);
         Ok(Stage::Closed)
     }
 
@@ -221,7 +226,7 @@ impl Draft {
         }
         match begun {
             Begun::Head => Ok(Stage::Headed),
-            Begun::Literal(literal) => self.take_end(literal),
+            Begun::Literal => self.take_end(),
         }
     }
 

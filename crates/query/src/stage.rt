@@ -1,11 +1,10 @@
 // Where a query text stands behind a token.
-use crate::term::Literal;
 
-// The atom that is begun: the head, or a literal with its terms so far.
+// The atom that is begun: the head, or the draft's literal.
 #[derive(Clone, Copy)]
 pub(crate) enum Begun {
     Head,
-    Literal(Literal),
+    Literal,
 }
 
 // What is due.

@@ -8,7 +8,7 @@ returns-in_err-kind_due c = record {
   taken = λ cat p s.
       let e = err_from_is_err_and c.from_residual.result c.from_residual.ensures.1 in
       let due = c.in_err-kind_due.ensures.due in
-      rw (e.1, e.2, due.1) (term_too_many cat c.args.self.now c.args.literal.now c.args.token.now s (constant_fits c.args.token.now c.requires.form) due.0);
+      rw (e.1, e.2, due.1) (term_too_many cat c.args.self.now c.args.token.now s (constant_fits c.args.token.now c.requires.form) due.0);
 }
 
 pub constant_of-requires : goal.constant_of-requires
@@ -19,12 +19,12 @@ returns-in_err-value c = record {
   taken = λ cat p s.
       let e = err_from_is_err_and c.from_residual-in_err-value.result c.from_residual-in_err-value.ensures.1 in
       rw (e.1, e.2, refusal_from_ok_or c.constant_of.result _ _ c.in_err-value.ensures.value)
-      (too_large cat c.args.self.now c.args.literal.now c.args.token.now s c.requires.form c.in_ok-kind_due.ensures.due.0 (rw c.in_err-value.ensures.ok_part at c.constant_of.ensures.value));
+      (too_large cat c.args.self.now c.args.token.now s c.requires.form c.in_ok-kind_due.ensures.due.0 (rw c.in_err-value.ensures.ok_part at c.constant_of.ensures.value));
 }
 
 pub returns : goal.returns
 returns c = record {
   taken = λ cat p s.
       let v = rw c.in_ok-value.ensures.ok_part at c.constant_of.ensures.value in
-      constant_taken cat c.args.self.now c.args.literal.now c.args.token.now s c.requires.form c.in_ok-kind_due.ensures.due.0 c.in_ok-value.value v.0 v.1;
+      constant_taken cat c.args.self.now c.args.token.now s c.requires.form c.in_ok-kind_due.ensures.due.0 c.in_ok-value.value v.0 v.1;
 }

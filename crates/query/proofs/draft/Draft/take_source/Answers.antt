@@ -20,5 +20,5 @@ overflow_cast-source c = let h = source_small c.args.self.now.catalogue c.args.t
 
 pub returns : goal.returns
 returns c = record {
-  taken = λ cat p s. source_taken cat c.args.self.now c.args.token.now c.in_ok-source.source (sym c.find_source.ensures.value ∙ c.in_ok-source.ensures.ok_part) (sym c.if-not-is_name.ensures.value) c.len.result c.len.ensures.value c.new.result s c.if-len-ge-LITERAL_MAX.false c.new.ensures.source c.new.ensures.none;
+  taken = λ cat p s. source_taken cat c.args.self.now c.args.token.now c.in_ok-source.source (sym c.find_source.ensures.value ∙ c.in_ok-source.ensures.ok_part) (sym c.if-not-is_name.ensures.value) c.len.result c.len.ensures.value c.new-self.result s c.if-len-ge-LITERAL_MAX.false c.new-self.ensures.source c.new-self.ensures.none;
 }
