@@ -110,11 +110,11 @@ literals_count cat d vs hd ls k s = sym (length-map (held d.literals) plain_lite
 pub source_small : (c : Catalogue) (t : Token) (i : ℕ) → place_of t (source_names c) ≡ Some i → i < 8
 source_small c t i e = let p = place_some t (source_names c) i e in let z = few_sources c in omega (arith, p.0)
 
-few_kinds : (d : Draft) (cat : Described) (n : Token) → described d.catalogue ≡ cat → length (kinds_at cat n) ≤ 4
-few_kinds d cat n e = subst (λ (x : Described). length (kinds_at x n) ≤ 4) e (few_columns d.catalogue (number_of n (source_names d.catalogue)))
+few_kinds : (d : Draft) (cat : Described) (n : Token) → described d.catalogue.now ≡ cat → length (kinds_at cat n) ≤ 4
+few_kinds d cat n e = subst (λ (x : Described). length (kinds_at x n) ≤ 4) e (few_columns d.catalogue.now (number_of n (source_names d.catalogue.now)))
 
-paired_lists : (d : Draft) (cat : Described) → described d.catalogue ≡ cat → length cat.names ≡ length cat.columns
-paired_lists d cat e = subst (λ (x : Described). length x.names ≡ length x.columns) e (as_many_columns d.catalogue)
+paired_lists : (d : Draft) (cat : Described) → described d.catalogue.now ≡ cat → length cat.names ≡ length cat.columns
+paired_lists d cat e = subst (λ (x : Described). length x.names ≡ length x.columns) e (as_many_columns d.catalogue.now)
 
 -- a token of another form than is due
 pub unfit : (cat : Described) (p : Part) (t : Token) → fits p t ≡ false → wrong cat p t ≡ Some QueryForm
@@ -191,17 +191,17 @@ module _ {cat : Described} {d : Draft} (t : Token) where
 
 -- the name of a literal
 module _ (cat : Described) (d : Draft) (t : Token) where
-  sought : described d.catalogue ≡ cat → place_of t (source_names d.catalogue) ≡ place_of t cat.names
+  sought : described d.catalogue.now ≡ cat → place_of t (source_names d.catalogue.now) ≡ place_of t cat.names
   sought e = ap (λ (x : Described). place_of t x.names) e
 
-  pub no_source : {p : Part} → Stands cat d at.Wanted p → is_name t ≡ true → place_of t (source_names d.catalogue) ≡ None → wrong cat p t ≡ Some UnfitLiteral
+  pub no_source : {p : Part} → Stands cat d at.Wanted p → is_name t ≡ true → place_of t (source_names d.catalogue.now) ≡ None → wrong cat p t ≡ Some UnfitLiteral
   no_source s name e = go s.stage s.read
     where
       go : {p : Part} → StageAt cat d.literal at.Wanted p → ReadAt cat d p → wrong cat p t ≡ Some UnfitLiteral
       go (wanted_literal h ls) read = told_12 (is_name t) (not (among t cat.names)) (leb 8 (length ls)) false false name (rw (place_none t cat.names (sym (sought read.catalogue) ∙ e)).0 refl)
 
-  module _ (i : ℕ) (found : place_of t (source_names d.catalogue) ≡ Some i) (name : is_name t ≡ true) (m : ℕ) (count : m ≡ length (held d.literals)) where
-    here : described d.catalogue ≡ cat → (i < length cat.names) × (get_or cat.names i [] ≡ t) × (among t cat.names ≡ true) × (number_of t cat.names ≡ i)
+  module _ (i : ℕ) (found : place_of t (source_names d.catalogue.now) ≡ Some i) (name : is_name t ≡ true) (m : ℕ) (count : m ≡ length (held d.literals)) where
+    here : described d.catalogue.now ≡ cat → (i < length cat.names) × (get_or cat.names i [] ≡ t) × (among t cat.names ≡ true) × (number_of t cat.names ≡ i)
     here e = place_some t cat.names i (sym (sought e) ∙ found)
 
     many : (h : Atom) (ls : List Atom) → Behind cat d (h ∷ ls) [] [] → m ≡ length ls
@@ -282,7 +282,7 @@ module _ (cat : Described) (d : Draft) (t : Token) (form : is_variable t ≡ tru
 -- a term of a literal
 module _ (cat : Described) (d : Draft) where
   abbrev ks : List ℕ
-  ks = (columns_of d.catalogue d.literal.source).kinds
+  ks = (columns_of d.catalogue.now d.literal.source).kinds
 
   abbrev place : ℕ
   place = length (held d.literal.terms)
@@ -472,7 +472,7 @@ module _ (cat : Described) (d : Draft) (t : Token) (form : is 41 t ≡ true) whe
     abbrev vs2 : List Token
     vs2 = known (h ∷ ls) all_items
 
-    there_2 : (columns_of d.catalogue d.literal.source).kinds ≡ kinds_at cat n
+    there_2 : (columns_of d.catalogue.now d.literal.source).kinds ≡ kinds_at cat n
     there_2 = there cat d h ls n all_items read g
 
     terms_count_2 : length (held d.literal.terms) ≡ length all_items
@@ -481,11 +481,11 @@ module _ (cat : Described) (d : Draft) (t : Token) (form : is 41 t ≡ true) whe
     fits_end : (is 44 t || is 41 t) ≡ true
     fits_end = or_right (is 44 t) (is 41 t) form
 
-    too_early : length (held d.literal.terms) < length (columns_of d.catalogue d.literal.source).kinds → wrong cat (listed (h ∷ ls) n ts x) t ≡ Some UnfitLiteral
+    too_early : length (held d.literal.terms) < length (columns_of d.catalogue.now d.literal.source).kinds → wrong cat (listed (h ∷ ls) n ts x) t ≡ Some UnfitLiteral
     too_early k = told_12 (is 44 t || is 41 t) (is 41 t && ltb (length all_items) (length (kinds_at cat n))) false false false fits_end
         (rw form (lt-ltb (length all_items) (length (kinds_at cat n)) (let z = terms_count_2 in let y = ap length there_2 in omega arith)))
 
-    ends_literal : (more : Bounded rl.Literal 8) (b : Bool) → length (columns_of d.catalogue d.literal.source).kinds ≤ length (held d.literal.terms) → b ≡ ltb d.literals.used 8 → held more ≡ cond b (held d.literals ++ d.literal ∷ []) (held d.literals) →
+    ends_literal : (more : Bounded rl.Literal 8) (b : Bool) → length (columns_of d.catalogue.now d.literal.source).kinds ≤ length (held d.literal.terms) → b ≡ ltb d.literals.used 8 → held more ≡ cond b (held d.literals ++ d.literal ∷ []) (held d.literals) →
         (wrong cat (listed (h ∷ ls) n ts x) t ≡ None) × Stands cat (record d { literals = more }) at.Closed (next (listed (h ∷ ls) n ts x) t)
     ends_literal more b k u v =
         let a = atom_of n ts x in
@@ -515,13 +515,13 @@ module _ (cat : Described) (d : Draft) (t : Token) (form : is 41 t ≡ true) whe
         literal_is : (i j : ℕ) (y z : List Term) → i ≡ j → y ≡ z → ◌≡◌ {A = Literal} (record { source = i; terms = y }) (record { source = j; terms = z })
         literal_is i j y z e f = rw (e, f) refl
 
-  pub closed_early : {p : Part} → Stands cat d (at.Listed atom.Literal) p → length (held d.literal.terms) < length (columns_of d.catalogue d.literal.source).kinds → wrong cat p t ≡ Some UnfitLiteral
+  pub closed_early : {p : Part} → Stands cat d (at.Listed atom.Literal) p → length (held d.literal.terms) < length (columns_of d.catalogue.now d.literal.source).kinds → wrong cat p t ≡ Some UnfitLiteral
   closed_early s k = go s.stage s.read
     where
       go : {p : Part} → StageAt cat d.literal (at.Listed atom.Literal) p → ReadAt cat d p → wrong cat p t ≡ Some UnfitLiteral
       go (listed_literal h ls n ts x g) read = too_early h ls n ts x read g k
 
-  pub literal_closed : {p : Part} (more : Bounded rl.Literal 8) (b : Bool) → Stands cat d (at.Listed atom.Literal) p → length (columns_of d.catalogue d.literal.source).kinds ≤ length (held d.literal.terms) → b ≡ ltb d.literals.used 8 → held more ≡ cond b (held d.literals ++ d.literal ∷ []) (held d.literals) →
+  pub literal_closed : {p : Part} (more : Bounded rl.Literal 8) (b : Bool) → Stands cat d (at.Listed atom.Literal) p → length (columns_of d.catalogue.now d.literal.source).kinds ≤ length (held d.literal.terms) → b ≡ ltb d.literals.used 8 → held more ≡ cond b (held d.literals ++ d.literal ∷ []) (held d.literals) →
       (wrong cat p t ≡ None) × Stands cat (record d { literals = more }) at.Closed (next p t)
   literal_closed more b s k u v = go s.stage s.read
     where

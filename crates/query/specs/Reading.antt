@@ -121,7 +121,7 @@ kind_behind cat v (h ∷ ls) n ts = kind_of cat v ls n ts
 
 -- these variables are read, with these kinds, these items of the head, and these literals
 pub record Seen (cat : Described) (d : Draft) (vs hd : List Token) (ls : List Atom) (kind : Token → Option ℕ) : Type 0 where
-  pub catalogue : described d.catalogue ≡ cat
+  pub catalogue : described d.catalogue.now ≡ cat
   pub variables : names d.variables ≡ vs
   pub kinds : (v : Token) → is_variable v ≡ true → slice_index_or d.kinds.cells (number_of v vs) None ≡ kind v
   pub unused : (j : ℕ) → length vs ≤ j → slice_index_or d.kinds.cells j None ≡ None

@@ -26,8 +26,8 @@ use lexing::{NAME_MAX, Name, is_byte, is_name, number_in};
 // literals; and the literal that is begun. A query has the same fields but the kinds and the last, and is
 // no part of a draft: what its ghost field says of them holds only when the text has ended.
 #[derive(Clone, Copy)]
-pub(crate) struct Draft {
-    pub(crate) catalogue: Catalogue,
+pub(crate) struct Draft<'a> {
+    pub(crate) catalogue: &'a Catalogue,
     pub(crate) variables: Bounded<Name, VARIABLE_MAX>,
     pub(crate) kinds: Kinds,
     pub(crate) head: Bounded<u8, HEAD_MAX>,
@@ -90,10 +90,10 @@ fn number_of(variables: &mut Bounded<Name, VARIABLE_MAX>, token: &[u8]) -> Resul
     number_in(variables, token, VARIABLE_MAX).ok_or(Refusal::QueryLimit)
 }
 
-impl Draft {
+impl<'a> Draft<'a> {
     // Nothing is read yet.
-    pub(crate) fn new(catalogue: Catalogue) -> Draft
-        ensures none { Stands (described catalogue) result at.Start (steps (described catalogue)).start }
+    pub(crate) fn new(catalogue: &'a Catalogue) -> Draft<'a>
+        ensures none { Stands (described catalogue.now) result at.Start (steps (described catalogue.now)).start }
     {
         Draft {
             catalogue,
@@ -141,7 +141,7 @@ impl Draft {
 
     // The kind of the column in which the literal's next term stands.
     fn kind_due(&self) -> Result<u8, Refusal>
-        ensures due { let kinds = (columns_of self.now.catalogue self.now.literal.source).kinds in
+        ensures due { let kinds = (columns_of self.now.catalogue.now self.now.literal.source).kinds in
             let place = length (held self.now.literal.terms) in
             MatchResult result (λ kind. (place < length kinds) × (kind ≡ slice_index kinds place)) (λ refusal. (length kinds ≤ place) × (refusal ≡ UnfitLiteral)) }
     {

@@ -6,7 +6,7 @@ ghost use Rattle.query.specs.Ends.{FirstMissing, places, tokens_of};
 use crate::draft::Draft;
 use lexing::{Tokens, is_blank};
 
-impl Draft {
+impl<'a> Draft<'a> {
     // The first variable of the head that stands in no literal, by its place in the head.
     pub(crate) fn first_missing(&self) -> Option<usize>
         ensures value { FirstMissing (held self.now.head) self.now.kinds.cells result }

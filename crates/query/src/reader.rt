@@ -1,4 +1,5 @@
 // Reads the text of a query.
+ghost use Rattle.std.specs.Prelude.{◌≡◌};
 ghost use Rattle.catalogue.specs.Records.{Described, described};
 ghost use Rattle.query.specs.Rules.{queries};
 ghost use Rattle.query.specs.Reading.{steps, Tied};
@@ -11,15 +12,15 @@ use lexing::{TokenReader, is_blank};
 
 // What is read so far, and what is due.
 #[derive(Clone, Copy)]
-pub(crate) struct Reader {
-    pub(crate) draft: Draft,
+pub(crate) struct Reader<'a> {
+    pub(crate) draft: Draft<'a>,
     pub(crate) stage: Stage,
 }
 
-impl Reader {
+impl<'a> Reader<'a> {
     // Nothing is read yet.
-    pub(crate) fn new(catalogue: Catalogue) -> Reader
-        ensures tied { Tied (described catalogue) result (steps (described catalogue)).start }
+    pub(crate) fn new(catalogue: &'a Catalogue) -> Reader<'a>
+        ensures tied { Tied (described catalogue.now) result (steps (described catalogue.now)).start }
     {
         Reader {
             draft: Draft::new(catalogue),
@@ -28,7 +29,7 @@ impl Reader {
     }
 }
 
-impl TokenReader for Reader {
+impl<'a> TokenReader for Reader<'a> {
     ghost Given = { Described };
 
     ghost grammar = { queries };
@@ -37,15 +38,22 @@ impl TokenReader for Reader {
 
     ghost StandsBehind = { Tied };
 
-    fn form() -> Refusal {
+    // The clauses of the trait, which the check does not give by itself to an impl with a lifetime.
+    fn form() -> Refusal
+        ensures value { (x : Described) → result ≡ (queries x).form }
+    {
         Refusal::QueryForm
     }
 
-    fn limit() -> Refusal {
+    fn limit() -> Refusal
+        ensures value { (x : Described) → result ≡ (queries x).limit }
+    {
         Refusal::QueryLimit
     }
 
-    fn passes_over(token: &[u8]) -> bool {
+    fn passes_over(token: &[u8]) -> bool
+        ensures value { (x : Described) → result ≡ (queries x).skips token.now }
+    {
         is_blank(token)
     }
 

@@ -18,7 +18,7 @@ impl Query {
     pub fn read(catalogue: Catalogue, text: &[u8]) -> Result<Query, Fault>
         ensures read { Read catalogue text.now result }
     {
-        let mut reader = Reader::new(catalogue);
+        let mut reader = Reader::new(&catalogue);
         read(&mut reader, text)?;
         let draft = &reader.draft;
         if let Some(i) = draft.first_missing() {

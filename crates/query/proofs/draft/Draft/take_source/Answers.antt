@@ -16,7 +16,7 @@ returns-then-len-ge-LITERAL_MAX c = record {
 }
 
 pub overflow_cast-source : goal.overflow_cast-source
-overflow_cast-source c = let h = source_small c.args.self.now.catalogue c.args.token.now c.in_ok-source.source (sym c.find_source.ensures.value ∙ c.in_ok-source.ensures.ok_part) in search rules
+overflow_cast-source c = let h = source_small c.args.self.now.catalogue.now c.args.token.now c.in_ok-source.source (sym c.find_source.ensures.value ∙ c.in_ok-source.ensures.ok_part) in search rules
 
 pub returns : goal.returns
 returns c = record {
