@@ -44,32 +44,37 @@ spotted rows row (Err k) asc bound found =
       below = leads_at rows k row (λ h. sym (is_behind (get_or rows k []) row) ∙ ap is_gt (parted.1 k [] (omega arith) h));
     }
 
+-- the first cells of a memory are its answers
+cells_are_rows : (count : ℕ) (memory : List ℕ) (cells : List (List ℕ)) → 4 * count ≤ length memory → cells ≡ first_chunks 4 (length memory / 4) memory → take count cells ≡ answers count memory
+cells_are_rows count memory cells room front =
+    let fits : count ≤ length memory / 4 = omega arith in
+    ap (take count) front ∙ first_cells 4 count (length memory / 4) memory fits
+
 -- the same among the first cells of a memory
 pub spotted_among : (count : ℕ) (memory answer : List ℕ) (cells : List (List ℕ)) (r : Result ℕ ℕ) → 4 * count ≤ length memory → cells ≡ first_chunks 4 (length memory / 4) memory → ascending (answers count memory) ≡ true → IsSearchInRange r (length (take count cells)) → IsBinarySearchResult (λ y. slice_cmp nat_cmp y answer) (take count cells) r → Spotted (answers count memory) answer r
 spotted_among count memory answer cells r room front asc bound found =
-    let fits : count ≤ length memory / 4 = omega arith in
-    let rows = ap (take count) front ∙ first_cells 4 count (length memory / 4) memory fits in
+    let rows = cells_are_rows count memory cells room front in
     spotted (answers count memory) answer r asc (rw (← rows) bound) (rw (← rows) found)
 
--- The first of the rows, compared with a row before the search.
+-- how a row compares with the first of the rows, where there is one
+abbrev pub compared_first : List (List ℕ) → List ℕ → Option Ordering
+compared_first rows row = option_map (λ first. slice_cmp nat_cmp row first) (slice_get rows 0)
+
+-- a row that comes before the first belongs in front, and one that is the first is found
 module _ (count : ℕ) (memory answer : List ℕ) (cells : List (List ℕ)) (room : 4 * count ≤ length memory) (front : cells ≡ first_chunks 4 (length memory / 4) memory) where
-  cells_are_rows : take count cells ≡ answers count memory
-  cells_are_rows = let fits : count ≤ length memory / 4 = omega arith in ap (take count) front ∙ first_cells 4 count (length memory / 4) memory fits
+  among_rows : {o : Option Ordering} → compared_first (take count cells) answer ≡ o → compared_first (answers count memory) answer ≡ o
+  among_rows e = ap (λ rows. compared_first rows answer) (sym (cells_are_rows count memory cells room front)) ∙ e
 
-  abbrev compared_first : Option Ordering
-  compared_first = option_map (λ first. slice_cmp nat_cmp answer first) (slice_get (take count cells) 0)
-
-  -- a row that comes before the first belongs in front
-  pub first_behind : compared_first ≡ Some Less → Belongs (answers count memory) answer 0
-  first_behind e = go (answers count memory) (ap (λ rows. option_map (λ first. slice_cmp nat_cmp answer first) (slice_get rows 0)) (sym cells_are_rows) ∙ e)
+  pub first_behind : compared_first (take count cells) answer ≡ Some Less → Belongs (answers count memory) answer 0
+  first_behind e = go (answers count memory) (among_rows e)
     where
-      go : (rows : List (List ℕ)) → option_map (λ first. slice_cmp nat_cmp answer first) (slice_get rows 0) ≡ Some Less → Belongs rows answer 0
+      go : (rows : List (List ℕ)) → compared_first rows answer ≡ Some Less → Belongs rows answer 0
       go [] e = cc
       go (r ∷ rows) e = record { inside = omega arith; above = λ k h. absurd (omega arith); below = let less : slice_cmp nat_cmp answer r ≡ Less = cc in sym (is_before answer r) ∙ ap is_lt less }
 
-  pub first_found : compared_first ≡ Some Equal → is_in answer (answers count memory) ≡ true
-  first_found e = go (answers count memory) (ap (λ rows. option_map (λ first. slice_cmp nat_cmp answer first) (slice_get rows 0)) (sym cells_are_rows) ∙ e)
+  pub first_found : compared_first (take count cells) answer ≡ Some Equal → is_in answer (answers count memory) ≡ true
+  first_found e = go (answers count memory) (among_rows e)
     where
-      go : (rows : List (List ℕ)) → option_map (λ first. slice_cmp nat_cmp answer first) (slice_get rows 0) ≡ Some Equal → is_in answer rows ≡ true
+      go : (rows : List (List ℕ)) → compared_first rows answer ≡ Some Equal → is_in answer rows ≡ true
       go [] e = cc
       go (r ∷ rows) e = or_left (same answer r) (is_in answer rows) (let equal : slice_cmp nat_cmp answer r ≡ Equal = cc in sym (is_same answer r) ∙ ap is_eq equal)
