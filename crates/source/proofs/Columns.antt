@@ -1,5 +1,5 @@
 -- Counting and comparing the given columns, one column after another.
-use Rattle.std.proofs.Common.{◌≡◌, ℕ, true, false, ◌⊎◌, ◌+◌, List, [], ◌∷◌, length, sum_by, Decides, sym, refl, ◌≤◌, subst, inl, inr, arith, ◌==◌}
+use Rattle.std.proofs.Common.{◌≡◌, ℕ, suc, true, false, ◌⊎◌, ◌+◌, List, [], ◌∷◌, length, filter, sum_by, Decides, sym, refl, ap, ◌≤◌, subst, inl, inr, arith, ◌==◌}
 use Rattle.std.specs.Int.{from_bool}
 use Rattle.std.proofs.lemmas.List.Sums.{sum_by-cons}
 use Rattle.std.proofs.lemmas.Bool.{and_parts, eq-eqb, ne_eqb, and_from, false≢true}
@@ -11,6 +11,12 @@ use Rattle.source.specs.declared.mark.Mark.TheVariants.{Given, Free}
 use Rattle.source.specs.Rows.{same}
 use Rattle.source.proofs.Tests.{deciders_agree}
 use Rattle.source.specs.Marks.{is_given, inputs_of, picked, same_mark, same_marks}
+
+-- the given marks are as many as the inputs
+pub given_counted : (ms : List Mark) → length (filter is_given ms) ≡ inputs_of ms
+given_counted [] = refl
+given_counted (Given ∷ ms) = ap suc (given_counted ms)
+given_counted (Free ∷ ms) = given_counted ms
 
 -- a given column takes one input, and a free one none
 abbrev pub one_if_given : Mark → ℕ
