@@ -1,7 +1,7 @@
 -- Counting and comparing the given columns, one column after another.
 use Rattle.std.proofs.Common.{◌≡◌, ℕ, suc, true, false, ◌⊎◌, ◌+◌, List, [], ◌∷◌, length, filter, sum_by, Decides, sym, refl, ap, ◌≤◌, subst, inl, inr, arith, ◌==◌}
 use Rattle.std.specs.Int.{from_bool}
-use Rattle.std.proofs.lemmas.List.Sums.{sum_by-cons}
+use Rattle.std.proofs.lemmas.List.Sums.{sum_by-cons, length-filter, count_by-le-length}
 use Rattle.std.proofs.lemmas.Bool.{and_parts, eq-eqb, ne_eqb, and_from, false≢true}
 use Rattle.std.specs.Cmp.Lexicographic.{pointwise}
 use Rattle.std.proofs.lemmas.Slice.Eq.{slice_eq-Decides}
@@ -29,9 +29,7 @@ given_summed (Free ∷ ms) = let none : sum_by one_if_given (Free ∷ ms) ≡ 0 
 
 -- a call takes at most one input for each column
 pub inputs_of_most : (ms : List Mark) → inputs_of ms ≤ length ms
-inputs_of_most [] = omega arith
-inputs_of_most (Given ∷ ms) = omega (arith, inputs_of_most ms)
-inputs_of_most (Free ∷ ms) = omega (arith, inputs_of_most ms)
+inputs_of_most ms = omega (arith, given_counted ms, length-filter is_given ms, count_by-le-length is_given ms)
 
 -- what a row holds in the given columns, one column after another
 module _ {ms ms' : List Mark} {vs vs' : List ℕ} {v : ℕ} where
